@@ -1,5 +1,5 @@
 -- A line that is answered for what it says.
-use Rattle.std.proofs.Common.{◌≡◌, ◌∙◌, ◌⊎◌, ℕ, List, [], ◌∷◌, ◌++◌, Ok, Err, refl, sym, ap, subst, append-nil}
+use Rattle.std.proofs.Common.{◌≡◌, ℕ, List, [], ◌++◌, Ok, Err, refl, sym, subst, append-nil}
 use Rattle.std.specs.Prelude.{OnOk, Result}
 use Rattle.mrp_qty.specs.declared.memory.NoMemory.{NoMemory}
 use Rattle.mrp_rows.specs.declared.fault.Fault.{Fault}

@@ -5,6 +5,7 @@ use Rattle.mrp_rows.specs.declared.fault.Fault.{Fault}
 use Rattle.mrp_rows.specs.FaultText.{text_of_fault}
 use Rattle.mrp_rows.specs.Left.{Cells}
 use Rattle.mrp_tables.specs.declared.rows.ScriptRow.{ScriptRow}
+use Rattle.mrp_tables.specs.Facts.{IsScriptRow}
 use Rattle.mrp_master.specs.Supply.{supply_of}
 use Rattle.mrp_turn.specs.declared.log.Entry.{Entry}
 use Rattle.mrp_turn.specs.Log.{entry}
@@ -48,8 +49,9 @@ pub record IsEntryOf (book : OrderBook) (given : ScriptRow) (e : Entry Call Repl
 abbrev pub entered : Desk → Entry Call Reply → List ℕ → Desk
 entered old e journalled = record { tables = old.tables; entries = old.entries ++ e ∷ []; room = old.room - length journalled }
 
--- a call makes one more entry: its row is answered, and its record is journalled
+-- a call of the shop makes one more entry: its row is answered, and its record is journalled
 pub record Enters (r : Cells) (given : ScriptRow) (old : Desk) (answer journalled : List ℕ) (new : Desk) : Type 0 where
+  pub within : IsScriptRow old.tables.calendar.weeks old.tables.items given
   pub reply : Reply
   pub is_reply : IsReply (supply_of old.tables) old.entries given.desk (call_of given.call) reply
   pub answered : answer ≡ entry_text old.tables (next_number old.entries, entry_of given reply)

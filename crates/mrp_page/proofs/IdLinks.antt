@@ -89,7 +89,7 @@ module _ (title : List ℕ) (tables : Option Facts) (notes : Noted) (risks : Ris
   loads = rows_in s.Loads notes.report
 
   abbrev top : List ℕ
-  top = top_html title tables notes.report notes.counts.items
+  top = top_html title tables notes.report notes.counts.items (length (shown_items (item_lists notes.report)))
 
   abbrev sums : List ℕ
   sums = summary_html notes.history (rows_in s.Messages notes.report) loads risks

@@ -66,7 +66,7 @@ unfolding page_html page_of rest_html items_of more_items
 items-stand title tables notes risks =
     let lists : ItemLists = item_lists notes.report in
     let shown : List RowView = shown_items lists in
-    let top : List ℕ = top_html title tables notes.report notes.counts.items in
+    let top : List ℕ = top_html title tables notes.report notes.counts.items (length (shown_items (item_lists notes.report))) in
     let sums : List ℕ = summary_html notes.history (rows_in s.Messages notes.report) (rows_in s.Loads notes.report) risks in
     let calls : List ℕ = refused_section (scene_in tables notes) notes.counts.history in
     let promises : List ℕ = risks_html (scene_in tables notes) risks in

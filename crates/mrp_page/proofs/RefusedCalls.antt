@@ -1,6 +1,6 @@
 -- Each call of the history that was not answered as it asked is in *Not promised* once.
 use Rattle.mrp_facts.specs.Facts.{Facts}
-use Rattle.std.proofs.Common.{Option, ◌≡◌, ◌∙◌, ℕ, Bool, true, false, Some, List, [], ◌∷◌, ◌++◌, codes, drop, take, refl, sym, ap, append_assoc}
+use Rattle.std.proofs.Common.{Option, ◌≡◌, ◌∙◌, ℕ, Bool, true, false, Some, List, [], ◌∷◌, ◌++◌, codes, drop, take, refl, sym, ap, append_assoc, length}
 use Rattle.std.specs.Prelude.{◌==◌, IsPermutation, if◌then◌else◌}
 use Rattle.std.specs.List.{filter, find, flat_map}
 use Rattle.std.proofs.lemmas.List.{append-nil}
@@ -17,7 +17,7 @@ use Rattle.mrp_page.specs.layout.Refused.{none_refused, refused_answer, refused_
 use Rattle.mrp_page.specs.Notes.{Noted}
 use Rattle.mrp_page.specs.AtRisk.{RisksView}
 use Rattle.mrp_page.specs.Promises.{risks_html}
-use Rattle.mrp_page.specs.Page.{glance_html, page_html, page_of, rest_html, scene_in, top_html}
+use Rattle.mrp_page.specs.Page.{glance_html, page_html, page_of, rest_html, scene_in, top_html, shown_items}
 use Rattle.mrp_page.specs.Refused.{asked_of, is_booking, refusals, refused_back, refused_html, refused_lines, refused_listing, refused_or_none, refused_rows, refused_section}
 use Rattle.mrp_page.specs.Row.{RowView, cell_at}
 use Rattle.mrp_page.specs.Rows.{rows_in}
@@ -58,7 +58,7 @@ refused-stand title tables notes risks =
     let scene : SceneView = scene_in tables notes in
     let line : RowView → List ℕ = refused_html scene in
     let rows : List RowView = refused_rows notes.history in
-    let top : List ℕ = top_html title tables notes.report notes.counts.items in
+    let top : List ℕ = top_html title tables notes.report notes.counts.items (length (shown_items (item_lists notes.report))) in
     let sums : List ℕ = summary_html notes.history (rows_in s.Messages notes.report) (rows_in s.Loads notes.report) risks in
     let seen : List ℕ = glance_html scene notes.report notes.counts.plan in
     let last : List ℕ = more_html notes.counts.history (codes "entry of the history is") (codes "entries of the history are") ++ section_end in

@@ -15,7 +15,7 @@ use Rattle.mrp_page.specs.layout.Head.{page_end, page_top}
 use Rattle.mrp_page.specs.Notes.{Noted}
 use Rattle.mrp_page.specs.AtRisk.{RisksView}
 use Rattle.mrp_page.specs.Promises.{risks_html}
-use Rattle.mrp_page.specs.Page.{glance_html, head_html, items_of, page_html, page_of, rest_html, scene_in, top_html}
+use Rattle.mrp_page.specs.Page.{glance_html, head_html, items_of, page_html, page_of, rest_html, scene_in, top_html, shown_items}
 use Rattle.mrp_page.specs.Refused.{refused_section}
 use Rattle.mrp_page.specs.Row.{RowView, cell_at}
 use Rattle.mrp_page.specs.Rows.{rows_in}
@@ -87,7 +87,7 @@ joined a o v b p c d e f g h = sym (simp append_assoc)
 pub ends : (title : List ℕ) (tables : Option Facts) (notes : Noted) (risks : RisksView) → (front : List ℕ) × (page_html title tables notes risks ≡ front ++ (codes "</html>" ++ 10 ∷ []))
 unfolding page_html page_of rest_html page_end
 ends title tables notes risks =
-    let top = top_html title tables notes.report notes.counts.items in
+    let top = top_html title tables notes.report notes.counts.items (length (shown_items (item_lists notes.report))) in
     let sums = summary_html notes.history (rows_in s.Messages notes.report) (rows_in s.Loads notes.report) risks in
     let calls = refused_section (scene_in tables notes) notes.counts.history in
     let promises = risks_html (scene_in tables notes) risks in

@@ -60,7 +60,7 @@ unfolding row_html said_pieces
 pieces-are pieces = refl
 
 pub released-is : (tables : Option Facts) (message order : RowView) → is_release message ≡ true → said_order tables message order
-    ≡ row_html said_pieces (pieces_row (cell_at order (column s.Orders (codes "quantity")))) ++ (codes ", start " ++ (escaped (cell_at order (column s.Orders (codes "start"))) ++ (codes ", due week " ++ (escaped (cell_at order (column s.Orders (codes "due"))) ++ (date_at tables (column s.Orders (codes "due")) order ++ [])))))
+    ≡ row_html said_pieces (pieces_row (cell_at order (column s.Orders (codes "quantity")))) ++ (codes ", " ++ (escaped (cell_at order (column s.Orders (codes "start"))) ++ (codes " to start, due week " ++ (escaped (cell_at order (column s.Orders (codes "due"))) ++ (date_at tables (column s.Orders (codes "due")) order ++ [])))))
 unfolding dated_html row_html said_order said_start said_pieces
 released-is tables message order is = rw is refl
 

@@ -14,8 +14,8 @@ use Rattle.mrp_page.specs.ItemRows.{ItemLists, item_lists}
 use Rattle.mrp_page.specs.Folded.{capped_html}
 use Rattle.mrp_page.specs.Frame.{count_row}
 use Rattle.mrp_page.specs.Kinds.{Kind, cancel, earlier, falling_rank, kind_html, kind_listing, kind_part, kinds, kinds_html, late, later, messages_of, note_html, open_count, open_html, order_html, order_of, other_messages, other_part, release, task_line, todo_back, todo_html, value_rank, received_html}
-use Rattle.mrp_page.specs.layout.Lists.{rest_end, section_end}
-use Rattle.mrp_page.specs.layout.Todo.{cancel_open, in_open, late_open, open_pieces, open_receipt, order_start, order_week, out_open, release_open, task_middle, task_row, task_supply, todo_open}
+use Rattle.mrp_page.specs.layout.Lists.{rest_end, row_open, section_end}
+use Rattle.mrp_page.specs.layout.Todo.{cancel_open, in_open, late_open, open_pieces, open_receipt, order_start, order_week, out_open, release_open, task_middle, task_supply, todo_open}
 use Rattle.mrp_page.specs.Notes.{Noted}
 use Rattle.mrp_page.specs.AtRisk.{RisksView}
 use Rattle.mrp_page.specs.Promises.{risks_html}
@@ -73,7 +73,7 @@ unfolding page_html page_of todo_html todo_back
 page-kinds title tables notes risks =
     let lists : ItemLists = item_lists notes.report in
     let messages : List RowView = rows_in s.Messages notes.report in
-    let top : List ℕ = top_html title tables notes.report notes.counts.items in
+    let top : List ℕ = top_html title tables notes.report notes.counts.items (length (shown_items (item_lists notes.report))) in
     let sums : List ℕ = summary_html notes.history (rows_in s.Messages notes.report) (rows_in s.Loads notes.report) risks in
     let calls : List ℕ = refused_section (scene_in tables notes) notes.counts.history in
     let promises : List ℕ = risks_html (scene_in tables notes) risks in
@@ -108,10 +108,10 @@ kind-lines kind scene state r rows =
 
 -- the order that a message is about
 pub order-is : (kind : Kind) (scene : SceneView) (message order : RowView) → order_of scene message ≡ Some order
-    → task_line kind scene message ≡ task_row ++ (item_name_html scene.shown (cell_at message 0) ++ (task_middle ++ (linked_html scene (Some order) (row_html task_supply message) ++ (codes "</td>" ++ (dated_html scene.tables kind.order order ++ dated_html scene.tables kind.value message)))))
+    → task_line kind scene message ≡ row_open ++ (item_name_html scene.shown (cell_at message 0) ++ (task_middle ++ (linked_html scene (Some order) (row_html task_supply message) ++ (codes "</td>" ++ (dated_html scene.tables kind.order order ++ dated_html scene.tables kind.value message)))))
 unfolding task_line
 order-is kind scene message order found =
-    ap (λ (o : Option RowView). task_row ++ (item_name_html scene.shown (cell_at message 0) ++ (task_middle ++ (linked_html scene o (row_html task_supply message) ++ (codes "</td>" ++ (order_html kind scene message o ++ dated_html scene.tables kind.value message)))))) found
+    ap (λ (o : Option RowView). row_open ++ (item_name_html scene.shown (cell_at message 0) ++ (task_middle ++ (linked_html scene o (row_html task_supply message) ++ (codes "</td>" ++ (order_html kind scene message o ++ dated_html scene.tables kind.value message)))))) found
 
 pub order-of-is : (scene : SceneView) (message : RowView) → order_of scene message
     ≡ ordered scene (cell_at message (column s.Messages (codes "item"))) (cell_at message (column s.Messages (codes "supply"))) (cell_at message (column s.Messages (codes "source")))

@@ -20,8 +20,8 @@ use Rattle.mrp_work.specs.declared.order.WorkOrder.{WorkOrder}
 use Rattle.mrp_page.specs.Amounts.{amount}
 use Rattle.mrp_page.specs.Explained.{falling_time, left_html, more_works_html, order_name_html, order_work, time_html, time_share_row, work_line, works_first, works_or_none, works_table}
 use Rattle.mrp_page.specs.Frame.{count_row}
-use Rattle.mrp_page.specs.layout.Todo.{task_row}
-use Rattle.mrp_page.specs.layout.Work.{work_back, work_blank, work_head, work_operation, work_other, work_rest, work_share, work_table_end, work_unknown}
+use Rattle.mrp_page.specs.layout.Lists.{grid_end, row_open}
+use Rattle.mrp_page.specs.layout.Work.{work_back, work_blank, work_head, work_operation, work_other, work_rest, work_share, work_unknown}
 use Rattle.mrp_page.specs.Numbering.{row_at}
 use Rattle.mrp_page.specs.Row.{RowView, cell_at}
 use Rattle.mrp_page.specs.Scene.{SceneView}
@@ -133,7 +133,7 @@ parts-make-load works load within =
 
 -- What stands of them.
 
-pub drawn-is : (scene : SceneView) (orders : List RowView) (load : RowView) (works : List Work) → total works ≤ amount (cell_at load 2) → works_or_none scene orders load works ≡ row_html work_head (share_row load) ++ (flat_map (work_line scene orders load) (take SOME_ROWS (works_first works)) ++ (more_works_html load (drop SOME_ROWS (works_first works)) ++ (left_html load (amount (cell_at load 2) - total works) ++ work_table_end)))
+pub drawn-is : (scene : SceneView) (orders : List RowView) (load : RowView) (works : List Work) → total works ≤ amount (cell_at load 2) → works_or_none scene orders load works ≡ row_html work_head (share_row load) ++ (flat_map (work_line scene orders load) (take SOME_ROWS (works_first works)) ++ (more_works_html load (drop SOME_ROWS (works_first works)) ++ (left_html load (amount (cell_at load 2) - total works) ++ grid_end)))
 unfolding works_or_none works_table
 drawn-is scene orders load works within = ap (λ (b : Bool). if b then works_table scene orders load works else work_unknown) (le-leb (total works) (amount (cell_at load 2)) within)
 
@@ -141,7 +141,7 @@ pub too-much-is : (scene : SceneView) (orders : List RowView) (load : RowView) (
 unfolding works_or_none
 too-much-is scene orders load works over = ap (λ (b : Bool). if b then works_table scene orders load works else work_unknown) (lt-leb (total works) (amount (cell_at load 2)) over)
 
-pub one-is : (scene : SceneView) (order load : RowView) (work : Work) → order_work scene order load work ≡ task_row ++ (order_name_html scene order ++ (row_html work_operation (count_row work.operation [] []) ++ (time_html load work.time ++ dated_html scene.tables work_back order)))
+pub one-is : (scene : SceneView) (order load : RowView) (work : Work) → order_work scene order load work ≡ row_open ++ (order_name_html scene order ++ (row_html work_operation (count_row work.operation [] []) ++ (time_html load work.time ++ dated_html scene.tables work_back order)))
 unfolding order_work
 one-is scene order load work = refl
 

@@ -1,5 +1,8 @@
 pub mod Rows
 pub mod Own
+pub mod Laid
+pub mod Plain
+pub mod OfKind
 pub mod Facts
 pub mod Pieces
 pub mod Summary

@@ -5,8 +5,8 @@ use Rattle.mrp_page.specs.Draw.{has_none, more_html, table_html}
 use Rattle.mrp_page.specs.Explained.{overload_html}
 use Rattle.mrp_page.specs.Folded.{Listing, capped_html}
 use Rattle.mrp_page.specs.Frame.{count_row}
-use Rattle.mrp_page.specs.layout.Centres.{capacity_label, centre_head, centre_open, centres_open, load_label, none_over, over_back, over_front, over_label, over_open, share_cell, share_label}
-use Rattle.mrp_page.specs.layout.Lists.{grid_end, rest_end, section_end}
+use Rattle.mrp_page.specs.layout.Centres.{capacity_label, centre_head, centre_open, centres_open, load_label, none_over, over_front, over_label, over_open, share_cell, share_label}
+use Rattle.mrp_page.specs.layout.Lists.{grid_end, list_end, rest_end, section_end}
 use Rattle.mrp_page.specs.layout.Records.{later_open}
 use Rattle.mrp_page.specs.layout.Work.{work_note}
 use Rattle.mrp_page.specs.Pictured.{centre_frame, picture_html}
@@ -71,7 +71,7 @@ each_centre tables loads leaders = flat_map (centre_html tables loads) leaders
 
 -- weeks of work centres that are over their capacity
 abbrev pub over_listing : SceneView → Option WorkView → Listing
-over_listing scene work = record { line = overload_html scene work; front = over_front; back = over_back }
+over_listing scene work = record { line = overload_html scene work; front = over_front; back = list_end }
 
 -- what is said of them all, if the first are explained
 abbrev pub explained_note : Option WorkView → List ℕ

@@ -1,14 +1,15 @@
 -- Overloads, each with the operations that load it.
 use Rattle.std.specs.Prelude.{ℕ, ◌-◌, ◌^◌, ◌==◌, min, nat_le, List, [], ◌∷◌, ◌++◌, Option, None, Some, codes, decimal, drop, flat_map, length, take, unwrap_or, if◌then◌else◌}
+use Rattle.mrp_facts.specs.Facts.{Facts}
 use Rattle.mrp_day.specs.declared.section.Section.TheVariants as s
 use Rattle.mrp_qty.specs.Minutes.{minutes_text_of}
 use Rattle.mrp_work.specs.declared.order.Work.{Work}
 use Rattle.mrp_work.specs.Work.{total}
 use Rattle.mrp_page.specs.Amounts.{amount}
 use Rattle.mrp_page.specs.Frame.{count_row}
-use Rattle.mrp_page.specs.layout.Centres.{over_line}
-use Rattle.mrp_page.specs.layout.Todo.{task_row}
-use Rattle.mrp_page.specs.layout.Work.{work_back, work_blank, work_count, work_end, work_head, work_name, work_open, work_operation, work_other, work_rest, work_share, work_table_end, work_unknown}
+use Rattle.mrp_page.specs.layout.Centres.{over_words}
+use Rattle.mrp_page.specs.layout.Lists.{bullet_end, bullet_open, grid_end, row_open}
+use Rattle.mrp_page.specs.layout.Work.{work_back, work_blank, work_count, work_end, work_head, work_name, work_open, work_operation, work_other, work_rest, work_share, work_unknown}
 use Rattle.mrp_page.specs.Numbering.{row_at}
 use Rattle.mrp_page.specs.Orders.{linked_html, ordered}
 use Rattle.mrp_page.specs.Overloaded.{share_sign, share_words}
@@ -47,7 +48,7 @@ order_name_html scene order = linked_html scene (ordered scene (cell_at order 0)
 -- an operation of this order: the order, the operation's number, its time, and the order's start, due week and lateness
 unfoldable pub order_work : SceneView → RowView → RowView → Work → List ℕ
 order_work scene order load work =
-    task_row
+    row_open
     ++ (order_name_html scene order
     ++ (row_html work_operation (count_row work.operation [] [])
     ++ (time_html load work.time
@@ -74,7 +75,7 @@ works_table scene orders load works =
     ++ (flat_map (work_line scene orders load) (take SOME_ROWS (works_first works))
     ++ (more_works_html load (drop SOME_ROWS (works_first works))
     ++ (left_html load (amount (cell_at load 2) - total works)
-    ++ work_table_end)))
+    ++ grid_end)))
 
 -- the operations, unless they take more time than the load has
 unfoldable pub works_or_none : SceneView → List RowView → RowView → List Work → List ℕ
@@ -84,18 +85,26 @@ works_or_none scene orders load works =
 -- an overload, with its operations folded behind it
 unfoldable pub explained_html : SceneView → List RowView → RowView → List Work → List ℕ
 explained_html scene orders load works =
-    dated_html scene.tables work_open (share_row load)
+    work_open
+    ++ (dated_html scene.tables over_words (share_row load)
     ++ (row_html work_count (count_row (length works) (codes "operation") (codes "operations"))
     ++ (works_or_none scene orders load works
-    ++ work_end))
+    ++ work_end)))
+
+-- an overload without its operations
+unfoldable pub plain_html : Option Facts → RowView → List ℕ
+plain_html tables load =
+    bullet_open
+    ++ (dated_html tables over_words (share_row load)
+    ++ bullet_end)
 
 -- an overload, with its operations if it is asked for
 abbrev pub explained_or_plain : SceneView → List RowView → RowView → Option (List Work) → List ℕ
-explained_or_plain scene orders load None = dated_html scene.tables over_line (share_row load)
+explained_or_plain scene orders load None = plain_html scene.tables load
 explained_or_plain scene orders load (Some works) = explained_html scene orders load works
 
 abbrev pub overload_html : SceneView → Option WorkView → RowView → List ℕ
-overload_html scene None load = dated_html scene.tables over_line (share_row load)
+overload_html scene None load = plain_html scene.tables load
 overload_html scene (Some view) load = explained_or_plain scene view.orders load (works_of view load)
 
 -- the texts of a time

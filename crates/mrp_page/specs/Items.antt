@@ -4,8 +4,8 @@ use Rattle.mrp_page.specs.Draw.{dated_table, has_none, item_name_html, link_html
 use Rattle.mrp_page.specs.Frame.{count_row}
 use Rattle.mrp_page.specs.ItemFacts.{item_facts_html}
 use Rattle.mrp_page.specs.ItemRows.{ItemLists}
-use Rattle.mrp_page.specs.layout.Items.{index_count, index_end, index_open, item_head, items_end, items_open, lists_open, order, orders_open, peg_back, peg_booking, peg_front, peg_middle, peg_need, peg_parent, peg_supply, pegs_open, wait_end, wait_late, wait_middle, wait_order, wait_supply, waits_open}
-use Rattle.mrp_page.specs.layout.Lists.{grid_end, rest_end, section_end}
+use Rattle.mrp_page.specs.layout.Items.{index_count, item_head, items_end, items_open, lists_open, order, orders_open, peg_back, peg_booking, peg_middle, peg_need, peg_parent, peg_supply, pegs_open, wait_end, wait_late, wait_order, wait_supply, waits_open}
+use Rattle.mrp_page.specs.layout.Lists.{bullet_end, bullet_open, grid_end, rest_end, row_open, section_end}
 use Rattle.mrp_page.specs.Orders.{linked_html, numbered, ordered}
 use Rattle.mrp_page.specs.Pegs.{waits_for}
 use Rattle.mrp_page.specs.Refused.{entry_name_html}
@@ -42,7 +42,7 @@ supply_html scene peg = linked_html scene (supplier_of scene peg) (row_html peg_
 -- a peg: where pieces of a supply go
 unfoldable pub peg_html : SceneView → RowView → List ℕ
 peg_html scene peg =
-    peg_front
+    row_open
     ++ (supply_html scene peg
     ++ (row_html peg_middle peg
     ++ (need_html scene peg
@@ -60,9 +60,9 @@ late_html (Some order) = row_html wait_late order
 -- a component that an order waits for
 unfoldable pub wait_html : SceneView → RowView → List ℕ
 wait_html scene peg =
-    peg_front
+    row_open
     ++ (linked_html scene (parent_of scene peg) (row_html wait_order peg)
-    ++ (row_html wait_middle peg
+    ++ (row_html peg_middle peg
     ++ (item_name_html scene.shown (cell_at peg 0)
     ++ (wait_supply
     ++ (supply_html scene peg
@@ -108,10 +108,10 @@ count_html count = if count == 0 then [] else row_html index_count (count_row co
 -- an item of the index
 unfoldable pub index_line : List RowView → RowView → List ℕ
 index_line messages leader =
-    index_open
+    bullet_open
     ++ (link_html (cell_at leader 0)
     ++ (count_html (message_count messages leader)
-    ++ index_end))
+    ++ bullet_end))
 
 -- the index of the items
 unfoldable pub index_html : List RowView → List RowView → List ℕ

@@ -9,8 +9,8 @@ use Rattle.mrp_page.specs.ByWord.{with_word}
 use Rattle.mrp_page.specs.Draw.{has_none, is_plain, item_name_html, more_html}
 use Rattle.mrp_page.specs.Folded.{Listing, capped_html}
 use Rattle.mrp_page.specs.Frame.{count_row}
-use Rattle.mrp_page.specs.layout.Lists.{rest_end, section_end, table_end}
-use Rattle.mrp_page.specs.layout.Todo.{cancel_front, cancel_open, in_front, in_open, late_front, late_open, nothing_to_do, open_pieces, order_start, order_unknown, order_week, other_cells, other_front, other_open, out_front, out_open, release_front, release_open, row_end, task_middle, task_row, task_supply, to_week, todo_note, todo_open, weeks_late}
+use Rattle.mrp_page.specs.layout.Lists.{rest_end, row_open, section_end, table_end}
+use Rattle.mrp_page.specs.layout.Todo.{cancel_front, cancel_open, in_front, in_open, late_front, late_open, nothing_to_do, open_pieces, order_start, order_unknown, order_week, other_cells, other_front, other_open, out_front, out_open, release_front, release_open, row_end, task_middle, task_supply, to_week, todo_note, todo_open, weeks_late}
 use Rattle.mrp_page.specs.Orders.{linked_html, ordered}
 use Rattle.mrp_page.specs.Pegs.{pieces_of_order}
 use Rattle.mrp_page.specs.Receipts.{receipt_html, receipt_of}
@@ -87,7 +87,7 @@ order_html kind scene message None = open_html scene message
 -- a message
 unfoldable pub task_line : Kind → SceneView → RowView → List ℕ
 task_line kind scene message =
-    task_row
+    row_open
     ++ (item_name_html scene.shown (cell_at message 0)
     ++ (task_middle
     ++ (linked_html scene (order_of scene message) (row_html task_supply message)

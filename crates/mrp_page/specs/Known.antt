@@ -6,18 +6,18 @@ use Rattle.mrp_page.specs.ItemRows.{item_lists}
 use Rattle.mrp_page.specs.Items.{message_count}
 use Rattle.mrp_page.specs.Kinds.{kinds, messages_of, open_count, other_messages}
 use Rattle.mrp_page.specs.Laws.{Entry, Escaped, Link, Markup, Order, Piece, piece_html}
-use Rattle.mrp_page.specs.layout.Centres.{above_bar, above_end, capacity_label, centre_head, centre_open, centres_open, cut_bar, hot_bar, hot_end, load_chart, load_end, load_label, low_bar, low_end, none_over, over_back, over_front, over_label, over_line, over_open, share_cell, share_label}
+use Rattle.mrp_page.specs.layout.Centres.{above_bar, above_end, capacity_label, centre_head, centre_open, centres_open, cut_bar, hot_bar, hot_end, load_chart, load_end, load_label, low_bar, low_end, none_over, over_front, over_label, over_open, over_words, share_cell, share_label}
 use Rattle.mrp_page.specs.layout.Glance.{glance_open, none_out, out_cells, out_first_open, out_late, outs_front, outs_head_end, outs_note, outs_safety, overloaded_line, overloaded_open}
-use Rattle.mrp_page.specs.layout.Head.{centre_tile, main_open, page_end, page_head, page_items, page_top, start_end, start_open, style, summary_open, summary_tile}
+use Rattle.mrp_page.specs.layout.Head.{centre_tile, head_end, main_open, page_end, page_head, page_items, page_shown, page_top, start_end, start_open, style, summary_open, summary_tile}
 use Rattle.mrp_page.specs.layout.History.{entry, history_end, history_open}
-use Rattle.mrp_page.specs.layout.Items.{facts_end, facts_open, facts_steps, index_count, index_end, index_open, item_head, items_end, items_open, lists_open, order, order_address, orders_open, peg_back, peg_booking, peg_front, peg_middle, peg_need, peg_parent, peg_supply, pegs_open, wait_end, wait_late, wait_middle, wait_order, wait_supply, waits_open}
-use Rattle.mrp_page.specs.layout.Lists.{grid_end, link_end, more, rest_end, rest_open, section_end, table_end, title_end, title_open}
+use Rattle.mrp_page.specs.layout.Items.{facts_end, facts_open, facts_steps, index_count, item_head, items_end, items_open, lists_open, order, order_address, orders_open, peg_back, peg_booking, peg_middle, peg_need, peg_parent, peg_supply, pegs_open, wait_end, wait_late, wait_order, wait_supply, waits_open}
+use Rattle.mrp_page.specs.layout.Lists.{bullet_end, bullet_open, grid_end, link_end, list_end, more, rest_end, rest_open, row_open, section_end, table_end, title_end, title_open}
 use Rattle.mrp_page.specs.layout.Records.{available_label, balance_chart, balance_label, balance_scale, booked_label, date_end, date_open, firm_label, gross_label, later_open, line_open, no_promises, no_record, planned_label, point, points_end, record_head, safety_line, safety_scale, scheduled_label, starts_label, week, week_end, weeks_end}
-use Rattle.mrp_page.specs.layout.Refused.{none_refused, refused_answer, refused_asked, refused_desk, refused_end, refused_front, refused_open, refused_row}
+use Rattle.mrp_page.specs.layout.Refused.{none_refused, refused_answer, refused_asked, refused_desk, refused_end, refused_front, refused_open}
 use Rattle.mrp_page.specs.layout.Risk.{none_at_risk, risk_booking, risk_front, risk_middle, risk_note, risk_open, risk_order, risks_unknown}
-use Rattle.mrp_page.specs.layout.Said.{no_message, said_back, said_close, said_front, said_open, said_other_back, said_other_front, said_pieces, said_receipt, said_start, said_week}
-use Rattle.mrp_page.specs.layout.Todo.{cancel_front, cancel_open, in_front, in_open, late_front, late_open, nothing_to_do, open_pieces, open_receipt, order_start, order_unknown, order_week, other_cells, other_front, other_open, out_front, out_open, release_front, release_open, row_end, task_middle, task_row, task_supply, to_week, todo_note, todo_open, weeks_late}
-use Rattle.mrp_page.specs.layout.Work.{work_back, work_blank, work_count, work_end, work_head, work_name, work_note, work_open, work_operation, work_other, work_rest, work_share, work_table_end, work_unknown}
+use Rattle.mrp_page.specs.layout.Said.{no_message, said_back, said_front, said_open, said_other_back, said_other_front, said_pieces, said_receipt, said_start, said_week}
+use Rattle.mrp_page.specs.layout.Todo.{cancel_front, cancel_open, in_front, in_open, late_front, late_open, nothing_to_do, open_pieces, open_receipt, order_start, order_unknown, order_week, other_cells, other_front, other_open, out_front, out_open, release_front, release_open, row_end, task_middle, task_supply, to_week, todo_note, todo_open, weeks_late}
+use Rattle.mrp_page.specs.layout.Work.{work_back, work_blank, work_count, work_end, work_head, work_name, work_note, work_open, work_operation, work_other, work_rest, work_share, work_unknown}
 use Rattle.mrp_facts.specs.Facts.{Facts, item_facts, open_order}
 use Rattle.mrp_facts.specs.declared.facts.ItemFacts.{ItemFacts}
 use Rattle.mrp_tables.specs.declared.rows.Receipt.{Receipt}
@@ -47,11 +47,11 @@ use Rattle.mrp_day.specs.declared.section.Section.TheVariants as s
 
 -- the markup that rows are drawn with
 unfoldable pub layouts : List (List Drawn)
-layouts = page_top ∷ page_head ∷ said_front ∷ said_back ∷ week ∷ entry ∷ order ∷ centre_head ∷ load_chart ∷ item_head ∷ record_head ∷ balance_chart ∷ point ∷ more ∷ said_other_front ∷ rest_open ∷ refused_answer ∷ refused_asked ∷ refused_desk ∷ task_supply ∷ order_start ∷ order_week ∷ weeks_late ∷ to_week ∷ row_end ∷ other_cells ∷ late_open ∷ release_open ∷ in_open ∷ out_open ∷ cancel_open ∷ other_open ∷ summary_tile ∷ centre_tile ∷ centre_open ∷ low_bar ∷ hot_bar ∷ above_bar ∷ cut_bar ∷ share_cell ∷ over_open ∷ over_line ∷ load_end ∷ open_pieces ∷ index_count ∷ peg_supply ∷ peg_middle ∷ peg_parent ∷ peg_need ∷ peg_back ∷ wait_order ∷ wait_middle ∷ wait_late ∷ outs_note ∷ out_cells ∷ overloaded_line ∷ said_other_back ∷ said_pieces ∷ said_start ∷ said_week ∷ risk_middle ∷ risk_order ∷ balance_scale ∷ out_late ∷ []
+layouts = page_top ∷ page_head ∷ said_front ∷ said_back ∷ week ∷ entry ∷ order ∷ centre_head ∷ load_chart ∷ item_head ∷ record_head ∷ balance_chart ∷ point ∷ more ∷ said_other_front ∷ rest_open ∷ refused_answer ∷ refused_asked ∷ refused_desk ∷ task_supply ∷ order_start ∷ order_week ∷ weeks_late ∷ to_week ∷ row_end ∷ other_cells ∷ late_open ∷ release_open ∷ in_open ∷ out_open ∷ cancel_open ∷ other_open ∷ summary_tile ∷ centre_tile ∷ centre_open ∷ low_bar ∷ hot_bar ∷ above_bar ∷ cut_bar ∷ share_cell ∷ over_open ∷ over_words ∷ load_end ∷ open_pieces ∷ index_count ∷ peg_supply ∷ peg_middle ∷ peg_parent ∷ peg_need ∷ peg_back ∷ wait_order ∷ wait_late ∷ outs_note ∷ out_cells ∷ overloaded_line ∷ said_other_back ∷ said_pieces ∷ said_start ∷ said_week ∷ risk_middle ∷ risk_order ∷ balance_scale ∷ out_late ∷ page_shown ∷ []
 
 -- markup that stands between rows
 unfoldable pub plain : List (List ℕ)
-plain = style ∷ todo_open ∷ nothing_to_do ∷ said_open ∷ said_close ∷ weeks_end ∷ points_end ∷ load_label ∷ capacity_label ∷ over_label ∷ grid_end ∷ centres_open ∷ section_end ∷ scheduled_label ∷ firm_label ∷ booked_label ∷ available_label ∷ gross_label ∷ planned_label ∷ starts_label ∷ balance_label ∷ orders_open ∷ pegs_open ∷ no_record ∷ history_open ∷ history_end ∷ page_end ∷ [] ∷ codes "<td>" ∷ codes "<td class=z>" ∷ codes "</td>" ∷ codes "</tr>\n" ∷ no_promises ∷ table_end ∷ rest_end ∷ refused_open ∷ none_refused ∷ refused_front ∷ refused_row ∷ refused_end ∷ todo_note ∷ task_row ∷ order_unknown ∷ late_front ∷ release_front ∷ in_front ∷ out_front ∷ cancel_front ∷ other_front ∷ summary_open ∷ main_open ∷ low_end ∷ hot_end ∷ above_end ∷ share_label ∷ later_open ∷ none_over ∷ over_front ∷ over_back ∷ codes "<td></td>" ∷ order_address ∷ task_middle ∷ items_open ∷ items_end ∷ index_open ∷ index_end ∷ lists_open ∷ waits_open ∷ peg_front ∷ peg_booking ∷ wait_supply ∷ wait_end ∷ link_end ∷ out_first_open ∷ none_out ∷ outs_front ∷ title_open ∷ title_end ∷ overloaded_open ∷ no_message ∷ risk_open ∷ risk_note ∷ none_at_risk ∷ risks_unknown ∷ risk_front ∷ risk_booking ∷ glance_open ∷ outs_head_end ∷ []
+plain = style ∷ todo_open ∷ nothing_to_do ∷ said_open ∷ list_end ∷ weeks_end ∷ points_end ∷ load_label ∷ capacity_label ∷ over_label ∷ grid_end ∷ centres_open ∷ section_end ∷ scheduled_label ∷ firm_label ∷ booked_label ∷ available_label ∷ gross_label ∷ planned_label ∷ starts_label ∷ balance_label ∷ orders_open ∷ pegs_open ∷ no_record ∷ history_open ∷ history_end ∷ page_end ∷ [] ∷ codes "<td>" ∷ codes "<td class=z>" ∷ codes "</td>" ∷ codes "</tr>\n" ∷ no_promises ∷ table_end ∷ rest_end ∷ refused_open ∷ none_refused ∷ refused_front ∷ row_open ∷ refused_end ∷ todo_note ∷ order_unknown ∷ late_front ∷ release_front ∷ in_front ∷ out_front ∷ cancel_front ∷ other_front ∷ summary_open ∷ main_open ∷ low_end ∷ hot_end ∷ above_end ∷ share_label ∷ later_open ∷ none_over ∷ over_front ∷ codes "<td></td>" ∷ order_address ∷ task_middle ∷ items_open ∷ items_end ∷ bullet_open ∷ bullet_end ∷ lists_open ∷ waits_open ∷ peg_booking ∷ wait_supply ∷ wait_end ∷ link_end ∷ out_first_open ∷ none_out ∷ outs_front ∷ title_open ∷ title_end ∷ overloaded_open ∷ no_message ∷ risk_open ∷ risk_note ∷ none_at_risk ∷ risks_unknown ∷ risk_front ∷ risk_booking ∷ glance_open ∷ outs_head_end ∷ head_end ∷ []
 
 -- the markup of a part
 abbrev pub marks_of : Drawn → List (List ℕ)
@@ -65,11 +65,11 @@ marks_of (DateWhere column word at) = []
 
 -- the markup that what the tables add is drawn with
 unfoldable pub tables_layouts : List (List Drawn)
-tables_layouts = page_items ∷ facts_open ∷ facts_steps ∷ facts_end ∷ safety_line ∷ open_receipt ∷ work_open ∷ work_count ∷ work_head ∷ work_name ∷ work_operation ∷ work_share ∷ work_back ∷ work_rest ∷ safety_scale ∷ said_receipt ∷ []
+tables_layouts = page_items ∷ facts_open ∷ facts_steps ∷ facts_end ∷ safety_line ∷ open_receipt ∷ work_count ∷ work_head ∷ work_name ∷ work_operation ∷ work_share ∷ work_back ∷ work_rest ∷ safety_scale ∷ said_receipt ∷ []
 
 -- markup that stands around it
 unfoldable pub tables_plain : List (List ℕ)
-tables_plain = week_end ∷ date_open ∷ date_end ∷ start_open ∷ start_end ∷ line_open ∷ work_note ∷ work_other ∷ work_blank ∷ work_table_end ∷ work_unknown ∷ work_end ∷ outs_safety ∷ codes " <i>" ∷ codes "</i>" ∷ codes " (" ∷ codes ")" ∷ []
+tables_plain = week_end ∷ date_open ∷ date_end ∷ start_open ∷ start_end ∷ line_open ∷ work_note ∷ work_open ∷ work_other ∷ work_blank ∷ work_unknown ∷ work_end ∷ outs_safety ∷ codes " <i>" ∷ codes "</i>" ∷ codes " (" ∷ codes ")" ∷ []
 
 -- all markup that a page may have; it is the same for every day
 unfoldable pub own_words : List (List ℕ)
@@ -127,7 +127,7 @@ summary_counts history messages loads =
 abbrev pub own_counts : Noted → List (List ℕ)
 own_counts notes =
     decimal notes.counts.messages ∷ decimal notes.counts.loads ∷ decimal (notes.counts.items - length (shown_items (item_lists notes.report)))
-    ∷ decimal (left_of notes).plan ∷ decimal (left_of notes).promises ∷ decimal (left_of notes).orders ∷ decimal (left_of notes).pegs ∷ decimal notes.counts.history ∷ decimal notes.counts.items ∷ decimal (length (drop FEW_ROWS (refused_rows notes.history))) ∷ summary_counts notes.history (rows_in s.Messages notes.report) (rows_in s.Loads notes.report)
+    ∷ decimal (left_of notes).plan ∷ decimal (left_of notes).promises ∷ decimal (left_of notes).orders ∷ decimal (left_of notes).pegs ∷ decimal notes.counts.history ∷ decimal notes.counts.items ∷ decimal (length (drop FEW_ROWS (refused_rows notes.history))) ∷ decimal (length (shown_items (item_lists notes.report))) ∷ summary_counts notes.history (rows_in s.Messages notes.report) (rows_in s.Loads notes.report)
 
 -- the lists whose rows are counted
 abbrev pub row_lists : Noted → List (List RowView)

@@ -8,8 +8,7 @@ use Rattle.mrp_page.specs.Frame.{count_row}
 use Rattle.mrp_page.specs.Html.{is_zero}
 use Rattle.mrp_page.specs.ItemFacts.{safety_cell_html}
 use Rattle.mrp_page.specs.layout.Glance.{none_out, out_cells, out_first_open, out_late, outs_front, outs_head_end, outs_note, outs_safety}
-use Rattle.mrp_page.specs.layout.Lists.{section_end, table_end}
-use Rattle.mrp_page.specs.layout.Todo.{task_row}
+use Rattle.mrp_page.specs.layout.Lists.{row_open, section_end, table_end}
 use Rattle.mrp_page.specs.Row.{RowView, cell_at}
 use Rattle.mrp_page.specs.Rows.{leaders, rank, rows_named}
 use Rattle.mrp_page.specs.Scene.{SceneView}
@@ -69,7 +68,7 @@ outs_first scene plan = sorted_by week_rank (sorted_by falling_late (map (out_ro
 -- an item that runs out, with its safety stock if the tables are given
 unfoldable pub out_line : SceneView → RowView → List ℕ
 out_line scene out =
-    task_row
+    row_open
     ++ (item_name_html scene.shown (cell_at out 0)
     ++ (dated_html scene.tables out_cells out
     ++ (safety_cell_html scene.tables (cell_at out 0)

@@ -1,15 +1,15 @@
 -- A page, drawn from what was kept of a day.
-use Rattle.std.specs.Prelude.{ℕ, Bool, ◌++◌, not, List, [], ◌∷◌, Option, codes, flat_map, take, if◌then◌else◌}
+use Rattle.std.specs.Prelude.{ℕ, Bool, ◌++◌, not, List, [], ◌∷◌, Option, codes, flat_map, take, if◌then◌else◌, length, nat_le}
 use Rattle.mrp_page.specs.declared.counts.Counts.{Counts}
 use Rattle.mrp_page.specs.declared.limits.TheConstants.{MOST_ITEMS}
 use Rattle.mrp_page.specs.Centres.{load_section}
 use Rattle.mrp_page.specs.Draw.{has_none, history_html, more_items}
-use Rattle.mrp_page.specs.Frame.{heading}
+use Rattle.mrp_page.specs.Frame.{heading, count_row}
 use Rattle.mrp_page.specs.ItemRows.{ItemLists, item_lists}
 use Rattle.mrp_page.specs.Items.{index_html, items_html}
 use Rattle.mrp_page.specs.Kinds.{todo_html}
 use Rattle.mrp_page.specs.layout.Glance.{glance_open}
-use Rattle.mrp_page.specs.layout.Head.{page_end, page_head, page_items, page_top, style}
+use Rattle.mrp_page.specs.layout.Head.{page_end, page_head, page_items, page_top, style, head_end, page_shown}
 use Rattle.mrp_page.specs.layout.Lists.{section_end}
 use Rattle.mrp_page.specs.Notes.{Noted}
 use Rattle.mrp_page.specs.Outs.{outs_section}
@@ -65,9 +65,13 @@ items_of scene rows counts =
 unfoldable pub rest_html : SceneView → ItemLists → Counts → List ℕ
 rest_html scene rows counts = items_of scene rows counts ++ (history_html scene.tables scene.history counts.history ++ page_end)
 
--- the head of a page, with its title, the report, and the number of items
-unfoldable pub top_html : List ℕ → Option Facts → List RowView → ℕ → List ℕ
-top_html title tables report items = head_html tables (heading title report items)
+-- how many items are on a page, if these are not all
+unfoldable pub shown_html : ℕ → ℕ → List ℕ
+shown_html items shown = if nat_le items shown then [] else row_html page_shown (count_row shown [] [])
+
+-- the head of a page, with its title, the report, the number of items, and how many of them are shown
+unfoldable pub top_html : List ℕ → Option Facts → List RowView → ℕ → ℕ → List ℕ
+top_html title tables report items shown = head_html tables (heading title report items) ++ (shown_html items shown ++ head_end)
 
 -- what stands at a glance: the items that run out first, and the work centres that are most over their capacity
 unfoldable pub glance_html : SceneView → List RowView → ℕ → List ℕ
@@ -80,7 +84,7 @@ glance_html scene report missed =
 -- a page, from what its parts are drawn from
 unfoldable pub page_of : List ℕ → Noted → SceneView → RisksView → List ℕ
 page_of title notes scene risks =
-    top_html title scene.tables notes.report notes.counts.items
+    top_html title scene.tables notes.report notes.counts.items (length scene.shown)
     ++ (summary_html notes.history (rows_in s.Messages notes.report) (rows_in s.Loads notes.report) risks
     ++ (glance_html scene notes.report notes.counts.plan
     ++ (refused_section scene notes.counts.history

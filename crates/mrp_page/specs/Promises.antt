@@ -7,8 +7,7 @@ use Rattle.mrp_page.specs.declared.limits.TheConstants.{MOST_AMOUNT, SOME_ROWS}
 use Rattle.mrp_page.specs.AtRisk.{RisksView}
 use Rattle.mrp_page.specs.Draw.{has_none, item_name_html}
 use Rattle.mrp_page.specs.Folded.{Listing, capped_html}
-use Rattle.mrp_page.specs.layout.Lists.{section_end, table_end}
-use Rattle.mrp_page.specs.layout.Refused.{refused_row}
+use Rattle.mrp_page.specs.layout.Lists.{row_open, section_end, table_end}
 use Rattle.mrp_page.specs.layout.Risk.{none_at_risk, risk_booking, risk_front, risk_middle, risk_note, risk_open, risk_order, risks_unknown}
 use Rattle.mrp_page.specs.layout.Todo.{weeks_late}
 use Rattle.mrp_page.specs.Numbering.{AreAnswers, row_at}
@@ -79,7 +78,7 @@ risk_end scene risk =
 -- a booking at risk
 unfoldable pub risk_line : SceneView → RowView → List ℕ
 risk_line scene risk =
-    refused_row
+    row_open
     ++ (item_name_html scene.shown (cell_at risk 0)
     ++ (risk_booking
     ++ (entry_name_html scene.history (cell_at risk 2)

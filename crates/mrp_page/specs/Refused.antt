@@ -6,8 +6,8 @@ use Rattle.mrp_page.specs.ByWord.{by_word}
 use Rattle.mrp_page.specs.Draw.{has_item, has_none, item_name_html, more_html}
 use Rattle.mrp_page.specs.Escaped.{escaped}
 use Rattle.mrp_page.specs.Folded.{Listing, folded_html}
-use Rattle.mrp_page.specs.layout.Lists.{link_end, link_middle, section_end, table_end}
-use Rattle.mrp_page.specs.layout.Refused.{entry_link_open, none_refused, refused_answer, refused_asked, refused_desk, refused_end, refused_front, refused_open, refused_row}
+use Rattle.mrp_page.specs.layout.Lists.{link_end, link_middle, row_open, section_end, table_end}
+use Rattle.mrp_page.specs.layout.Refused.{entry_link_open, none_refused, refused_answer, refused_asked, refused_desk, refused_end, refused_front, refused_open}
 use Rattle.mrp_page.specs.Row.{RowView, cell_at, is_of}
 use Rattle.mrp_page.specs.Scene.{SceneView}
 use Rattle.mrp_page.specs.Template.{dated_html, has_word, row_html}
@@ -54,7 +54,7 @@ caller_html history call = row_html refused_desk call ++ (entry_name_html histor
 -- a call about an item, pieces and a week
 unfoldable pub call_html : SceneView → RowView → RowView → List ℕ
 call_html scene asked call =
-    refused_row
+    row_open
     ++ (item_name_html scene.shown (cell_at asked 3)
     ++ (answer_html scene.history call
     ++ (dated_html scene.tables refused_asked asked

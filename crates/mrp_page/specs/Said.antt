@@ -5,7 +5,8 @@ use Rattle.mrp_page.specs.Draw.{has_none, is_plain}
 use Rattle.mrp_page.specs.Folded.{Listing, folded_html}
 use Rattle.mrp_page.specs.ItemRows.{ItemLists}
 use Rattle.mrp_page.specs.Kinds.{open_count, order_of, other_messages}
-use Rattle.mrp_page.specs.layout.Said.{no_message, said_back, said_close, said_front, said_open, said_other_back, said_other_front, said_pieces, said_receipt, said_start, said_week}
+use Rattle.mrp_page.specs.layout.Lists.{list_end}
+use Rattle.mrp_page.specs.layout.Said.{no_message, said_back, said_front, said_open, said_other_back, said_other_front, said_pieces, said_receipt, said_start, said_week}
 use Rattle.mrp_page.specs.layout.Todo.{task_supply}
 use Rattle.mrp_page.specs.Orders.{linked_html}
 use Rattle.mrp_page.specs.Receipts.{receipt_of, receipt_row}
@@ -89,7 +90,7 @@ said_html scene message =
     ++ dated_html scene.tables (back_of message) message))
 
 abbrev pub said_listing : SceneView → Listing
-said_listing scene = record { line = said_html scene; front = said_open; back = said_close }
+said_listing scene = record { line = said_html scene; front = said_open; back = list_end }
 
 -- messages of an item; if there are none, that there are none on the page
 unfoldable pub said_or_none : SceneView → List RowView → List ℕ

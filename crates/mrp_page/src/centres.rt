@@ -3,10 +3,8 @@
 ghost use Rattle.std.specs.Prelude.{◌≡◌, ◌++◌, OnOk, flat_map, map, IfOk};
 ghost use Rattle.mrp_page.specs.Centres.{all_loads, centre_html, centres_back, each_centre, explained_note, framed_centre, later_loads, load_section, loads_html, loads_table, over_or_none, shares_html, times_html, work_in};
 ghost use Rattle.std.specs.Option.{option_copied};
-ghost use Rattle.mrp_page.specs.Explained.{explained_or_plain};
-ghost use Rattle.mrp_page.specs.layout.Centres.{over_line};
-ghost use Rattle.mrp_page.specs.Shares.{minutes_at, overloads_first, share_row};
-ghost use Rattle.mrp_page.specs.Template.{dated_html};
+ghost use Rattle.mrp_page.specs.Explained.{explained_or_plain, plain_html};
+ghost use Rattle.mrp_page.specs.Shares.{minutes_at, overloads_first};
 ghost use Rattle.mrp_page.specs.Work.{works_of};
 
 use crate::draw::{cut_weeks, put_more, put_table};
@@ -15,10 +13,10 @@ use crate::folded::{Lines, cut_rows, put_capped};
 use crate::frame::count_row;
 use crate::html::Html;
 use crate::layout::centres::{
-    capacity_label, centre_head, centre_open, centres_open, load_label, none_over, over_back,
-    over_front, over_label, over_line, over_open, share_cell, share_label,
+    capacity_label, centre_head, centre_open, centres_open, load_label, none_over, over_front,
+    over_label, over_open, over_words, share_cell, share_label,
 };
-use crate::layout::lists::{grid_end, rest_end, section_end};
+use crate::layout::lists::{bullet_end, bullet_open, grid_end, list_end, rest_end, section_end};
 use crate::layout::records::later_open;
 use crate::layout::work::work_note;
 use crate::limits::{MOST_EXPLAINED, SOME_ROWS};
@@ -192,16 +190,19 @@ struct Overloads<'o, 'k, 's, 'a> {
 }
 
 // Adds an overload without the operations that load it.
+#[tactic(auto, unfolding(crate::specs::Explained::plain_html))]
 fn put_plain(
     alloc: Global,
     page: &mut Html,
     tables: Option<&Facts<'_>>,
     load: &Row,
 ) -> Result<(), NoMemory>
-    ensures { OnOk result (page.new ≡ page.old ++ dated_html (option_copied tables.entry) over_line (share_row load.now)) }
+    ensures { OnOk result (page.new ≡ page.old ++ plain_html (option_copied tables.entry) load.now) }
 {
     let row = share_row(alloc, load)?;
-    put_dated(page, tables, over_line(), &row)
+    page.markup(bullet_open())?;
+    put_dated(page, tables, over_words(), &row)?;
+    page.markup(bullet_end())
 }
 
 // Adds an overload, with the operations that load it if it was asked for.
@@ -238,7 +239,7 @@ impl Lines for Overloads<'_, '_, '_, '_> {
     }
 
     fn back(&self) -> &'static [u8] {
-        over_back()
+        list_end()
     }
 }
 

@@ -12,11 +12,11 @@ use crate::html::Html;
 use crate::item_facts::put_item_facts;
 use crate::item_rows::ItemRows;
 use crate::layout::items::{
-    index_count, index_end, index_open, item_head, items_end, items_open, lists_open, order,
-    orders_open, peg_back, peg_booking, peg_front, peg_middle, peg_need, peg_parent, peg_supply,
-    pegs_open, wait_end, wait_late, wait_middle, wait_order, wait_supply, waits_open,
+    index_count, item_head, items_end, items_open, lists_open, order, orders_open, peg_back,
+    peg_booking, peg_middle, peg_need, peg_parent, peg_supply, pegs_open, wait_end, wait_late,
+    wait_order, wait_supply, waits_open,
 };
-use crate::layout::lists::{grid_end, rest_end, section_end};
+use crate::layout::lists::{bullet_end, bullet_open, grid_end, rest_end, row_open, section_end};
 use crate::orders::{numbered, ordered, put_linked};
 use crate::places::Places;
 use crate::refused::put_entry_link;
@@ -95,7 +95,7 @@ fn put_supply(page: &mut Html, scene: &Scene<'_, '_>, peg: &Row) -> Result<(), N
 fn put_peg(page: &mut Html, scene: &Scene<'_, '_>, peg: &Row) -> Result<(), NoMemory>
     ensures { OnOk result (page.new ≡ page.old ++ peg_html scene.now peg.now) }
 {
-    page.markup(peg_front())?;
+    page.markup(row_open())?;
     put_supply(page, scene, peg)?;
     put_row(page, peg_middle(), peg)?;
     put_need(page, scene, peg)?;
@@ -139,9 +139,9 @@ fn put_wait(page: &mut Html, scene: &Scene<'_, '_>, peg: &Row) -> Result<(), NoM
 {
     let parent = parent_of(scene, peg);
     let supplier = supplier_of(scene, peg);
-    page.markup(peg_front())?;
+    page.markup(row_open())?;
     put_linked(page, scene, parent, wait_order(), peg)?;
-    put_row(page, wait_middle(), peg)?;
+    put_row(page, peg_middle(), peg)?;
     put_item_name(page, scene.shown(), peg.name())?;
     page.markup(wait_supply())?;
     put_supply(page, scene, peg)?;
@@ -261,10 +261,10 @@ fn put_index_line(
 ) -> Result<(), NoMemory>
     ensures { OnOk result (page.new ≡ page.old ++ index_line messages.now leader.now) }
 {
-    page.markup(index_open())?;
+    page.markup(bullet_open())?;
     put_link(page, leader.name())?;
     put_count(alloc, page, message_count(messages, leader) as u64)?;
-    page.markup(index_end())
+    page.markup(bullet_end())
 }
 
 // Adds items of the index.

@@ -16,11 +16,11 @@ ghost use Rattle.std.specs.List.{slice_get};
 ghost use Rattle.mrp_page.specs.Orders.{is_order, linked_html, numbered, order_link, ordered};
 ghost use Rattle.mrp_page.specs.Scene.{SceneView};
 ghost use Rattle.mrp_page.specs.Html.{number_html};
-ghost use Rattle.mrp_page.specs.Outs.{distance, falling_late, is_planned, out_row, outs_first, sign};
+ghost use Rattle.mrp_page.specs.Outs.{distance, falling_late, is_planned, out_line, out_row, outs_first, outs_html, outs_table, sign};
 ghost use Rattle.mrp_page.specs.ByWord.{has_one_of, with_word};
 ghost use Rattle.mrp_page.specs.Columns.{column};
 ghost use Rattle.mrp_page.specs.Counted.{AreSomeOf, is_peg_of, kept_of, missed_of, records_of, together, wanted_rows};
-ghost use Rattle.mrp_page.specs.Draw.{all_weeks, amounts_html, balance_html, booked_html, framed_record, has_item, is_plain, is_scheduled, item_name_html, later_record, link_html, measure_html, more_html, named_record, planned_html, points_html, promised_html, record_or_none, record_rows, record_table, supplies_html};
+ghost use Rattle.mrp_page.specs.Draw.{all_weeks, amounts_html, balance_html, booked_html, framed_record, has_item, history_html, is_plain, is_scheduled, item_name_html, later_record, link_html, measure_html, more_html, named_record, planned_html, points_html, promised_html, record_or_none, record_rows, record_table, supplies_html};
 ghost use Rattle.mrp_page.specs.Escaped.{escaped};
 ghost use Rattle.mrp_page.specs.Folded.{Listing, capped_html, folded_html, hidden_html, listed_html};
 ghost use Rattle.mrp_page.specs.Ids.{AreApart, AreNamed, IsPartOf, centre_id, centres_shown, entry_id, item_id, order_id, order_numbers, page_ids, section_ids};
@@ -29,23 +29,24 @@ ghost use Rattle.mrp_page.specs.ItemRows.{ItemLists, item_lists};
 ghost use Rattle.mrp_page.specs.Known.{IsKnown, IsMadeOf, IsOrderShown, entries_kept, names_shown};
 ghost use Rattle.mrp_page.specs.Labels.{AreFirm};
 ghost use Rattle.mrp_page.specs.Laws.{piece_html, pieces, shown};
-ghost use Rattle.mrp_page.specs.layout.Centres.{above_bar, above_end, capacity_label, cut_bar, hot_bar, hot_end, load_label, low_bar, low_end, over_label, over_line, over_open};
-ghost use Rattle.mrp_page.specs.layout.Glance.{out_cells, overloaded_line, overloaded_open};
+ghost use Rattle.mrp_page.specs.layout.Centres.{above_bar, above_end, capacity_label, cut_bar, hot_bar, hot_end, load_label, low_bar, low_end, over_label, over_open, over_words};
+ghost use Rattle.mrp_page.specs.layout.Glance.{outs_note, overloaded_line, overloaded_open};
 ghost use Rattle.mrp_page.specs.layout.History.{entry};
-ghost use Rattle.mrp_page.specs.layout.Items.{lists_open, order, orders_open, peg_back, peg_parent, pegs_open, waits_open};
-ghost use Rattle.mrp_page.specs.layout.Lists.{grid_end, rest_end, section_end};
+ghost use Rattle.mrp_page.specs.layout.Items.{lists_open, order, orders_open, peg_parent, pegs_open, waits_open};
+ghost use Rattle.mrp_page.specs.layout.Lists.{bullet_end, bullet_open, grid_end, rest_end, row_open, section_end};
 ghost use Rattle.mrp_page.specs.layout.Records.{available_label, balance_label, booked_label, firm_label, gross_label, later_open, planned_label, points_end, scheduled_label, starts_label, week, week_end, weeks_end};
-ghost use Rattle.mrp_page.specs.layout.Refused.{none_refused, refused_answer, refused_asked, refused_open};
-ghost use Rattle.mrp_page.specs.layout.Risk.{none_at_risk, risk_middle, risk_note, risk_open, risks_unknown};
+ghost use Rattle.mrp_page.specs.layout.Refused.{none_refused, refused_answer, refused_open};
+ghost use Rattle.mrp_page.specs.layout.Risk.{none_at_risk, risk_note, risk_open, risks_unknown};
 ghost use Rattle.mrp_page.specs.layout.Said.{said_pieces};
-ghost use Rattle.mrp_page.specs.layout.Todo.{order_start, order_week, task_middle, task_row, task_supply, to_week};
-ghost use Rattle.mrp_page.specs.layout.Work.{work_open, work_back, work_blank, work_head, work_operation, work_other, work_rest, work_share, work_table_end, work_unknown};
-ghost use Rattle.mrp_page.specs.Frame.{count_row};
+ghost use Rattle.mrp_page.specs.layout.Todo.{order_start, order_week, task_middle, task_supply, to_week};
+ghost use Rattle.mrp_page.specs.layout.Work.{work_back, work_blank, work_head, work_open, work_operation, work_other, work_rest, work_share, work_unknown};
+ghost use Rattle.mrp_page.specs.layout.Head.{head_end};
+ghost use Rattle.mrp_page.specs.Frame.{count_row, heading};
 ghost use Rattle.mrp_page.specs.Kinds.{Kind, cancel, earlier, kind_html, kind_part, kinds, kinds_html, late, later, messages_of, open_count, open_html, order_of, other_messages, other_part, release, state_of, task_line, value_rank};
 ghost use Rattle.std.specs.List.Sorted.{IsNonDecreasingBy};
 ghost use Rattle.mrp_page.specs.Rows.{leaders, rank};
 ghost use Rattle.mrp_page.specs.Notes.{Noted, notes_of};
-ghost use Rattle.mrp_page.specs.Page.{page_html, scene_in, shown_items};
+ghost use Rattle.mrp_page.specs.Page.{head_html, page_html, scene_in, shown_html, shown_items, top_html};
 ghost use Rattle.mrp_page.specs.Pictures.{drawn_balance};
 ghost use Rattle.mrp_page.specs.Reading.{IsDayOf};
 ghost use Rattle.mrp_page.specs.Receipts.{receipt_of};
@@ -55,15 +56,15 @@ ghost use Rattle.mrp_cal.specs.Calendar.{IsShopCalendar, week_of};
 ghost use Rattle.mrp_facts.specs.Dates.{AreDates, date_text, has_years};
 ghost use Rattle.mrp_facts.specs.Facts.{Facts, item_facts, open_order};
 ghost use Rattle.mrp_facts.specs.declared.facts.ItemFacts.{ItemFacts};
-ghost use Rattle.mrp_page.specs.Weeks.{date_html, week_html, weeks_html};
+ghost use Rattle.mrp_page.specs.Weeks.{week_html, weeks_html};
 ghost use Rattle.mrp_page.specs.Work.{WorkView, centre_named, work_orders, works_of};
-ghost use Rattle.mrp_page.specs.Explained.{falling_time, left_html, more_works_html, order_name_html, order_work, time_html, time_share_row, work_line, works_first, works_or_none, works_table};
+ghost use Rattle.mrp_page.specs.Explained.{explained_html, falling_time, left_html, more_works_html, order_name_html, order_work, plain_html, time_html, time_share_row, work_line, works_first, works_or_none, works_table};
 ghost use Rattle.mrp_work.specs.Work.{all_work, is_at, time_of};
 ghost use Rattle.mrp_work.specs.Work as operations;
 ghost use Rattle.mrp_work.specs.declared.order.Work.{Work};
 ghost use Rattle.mrp_tables.specs.declared.rows.Receipt.{Receipt};
 ghost use Rattle.mrp_page.specs.Numbering.{AreAnswers, lateness_of, numbered_pegs};
-ghost use Rattle.mrp_page.specs.Promises.{drawn_risk, risk_listing, risks_first, risks_html, risks_or_none};
+ghost use Rattle.mrp_page.specs.Promises.{drawn_risk, risk_line, risk_listing, risks_first, risks_html, risks_or_none};
 ghost use Rattle.mrp_risk.specs.Chains.{HangsOn, weeks_late};
 ghost use Rattle.mrp_risk.specs.Risks.{pieces_of, risk_at};
 ghost use Rattle.mrp_risk.specs.declared.risk.Risk.{Risk};
@@ -73,7 +74,7 @@ ghost use Rattle.mrp_page.specs.Rows.{rows_in, rows_named};
 ghost use Rattle.mrp_page.specs.Section.{place_of};
 ghost use Rattle.mrp_page.specs.Shown.{IsByItems, items_of_plan, items_to_show, rows_of, run_shown};
 ghost use Rattle.mrp_page.specs.Spot.{Names};
-ghost use Rattle.mrp_page.specs.Summary.{count_with, is_over, is_undone, place_or, summary_html, tile_html};
+ghost use Rattle.mrp_page.specs.Summary.{count_with, is_over, is_undone, over_tile, place_or, risk_tile, summary_html, tile_html};
 ghost use Rattle.mrp_page.specs.Template.{Drawn, date_at, dated_html, has_word, number_at, row_html, week_at};
 ghost use Rattle.mrp_page.specs.Dates.{cell_date, date_in, said_date};
 ghost use Rattle.mrp_page.specs.Said.{back_of, by_urgency, front_of, is_release, item_messages, messages_at, pieces_row, said_html, said_known, said_of_open, said_order};
@@ -150,28 +151,30 @@ pub fn weeks_stand_once()
 pub fn weeks_stand_with_their_dates()
     ensures weeks { (tables : Option Facts) (rows : List RowView) → weeks_html tables rows ≡ flat_map (week_html tables) rows ++ weeks_end }
     ensures undated { (row : RowView) → week_html None row ≡ codes "<th scope=col>" ++ (escaped (cell_at row 1) ++ codes "</th>") }
-    ensures dated { (facts : Facts) (row : RowView) (number : ℕ) → IsShopCalendar facts.tables.calendar → AreDates facts.tables.calendar facts.dates → IsInRange 1 facts.tables.calendar.weeks number → cell_at row 1 ≡ decimal number → (date : Date) × (week_of facts.tables.calendar date ≡ Some number) × (week_html (Some facts) row ≡ row_html week row ++ (date_html (date_text (has_years facts.tables.calendar) date) ++ week_end)) }
+    ensures dated { (facts : Facts) (row : RowView) (number : ℕ) → IsShopCalendar facts.tables.calendar → AreDates facts.tables.calendar facts.dates → IsInRange 1 facts.tables.calendar.weeks number → cell_at row 1 ≡ decimal number → (date : Date) × (week_of facts.tables.calendar date ≡ Some number) × (week_html (Some facts) row ≡ row_html week row ++ ((codes "<br><small>" ++ (escaped (date_text (has_years facts.tables.calendar) date) ++ codes "</small>")) ++ week_end)) }
 {}
 
 /// Each week of a list, and each that is said, stands with its date if the tables are given: that of a day which falls in the week
 /// beside it. Without them it has none. The weeks are those of the day's columns: of orders, messages, pegs, bookings at risk,
-/// calls, entries, operations and overloads.
+/// calls, entries, operations and overloads. An overload is said in the same words with its operations behind it and without.
 pub fn weeks_of_lists_stand_with_their_dates()
     ensures undated { (parts : List Drawn) (row : RowView) → dated_html None parts row ≡ row_html parts row }
     ensures alone { (column : ℕ) (row : RowView) → week_at None column row ≡ codes "<td>" ++ (escaped (cell_at row column) ++ codes "</td>") }
     ensures unsaid { (column : ℕ) (row : RowView) → date_at None column row ≡ [] }
-    ensures dated { (facts : Facts) (column : ℕ) (row : RowView) (number : ℕ) → IsShopCalendar facts.tables.calendar → AreDates facts.tables.calendar facts.dates → IsInRange 1 facts.tables.calendar.weeks number → cell_at row column ≡ decimal number → (date : Date) × (week_of facts.tables.calendar date ≡ Some number) × (week_at (Some facts) column row ≡ codes "<td>" ++ (escaped (decimal number) ++ (cell_date (date_text (has_years facts.tables.calendar) date) ++ codes "</td>"))) }
-    ensures said { (facts : Facts) (column : ℕ) (row : RowView) (number : ℕ) → IsShopCalendar facts.tables.calendar → AreDates facts.tables.calendar facts.dates → IsInRange 1 facts.tables.calendar.weeks number → cell_at row column ≡ decimal number → (date : Date) × (week_of facts.tables.calendar date ≡ Some number) × (date_at (Some facts) column row ≡ said_date (date_text (has_years facts.tables.calendar) date)) }
+    ensures dated { (facts : Facts) (column : ℕ) (row : RowView) (number : ℕ) → IsShopCalendar facts.tables.calendar → AreDates facts.tables.calendar facts.dates → IsInRange 1 facts.tables.calendar.weeks number → cell_at row column ≡ decimal number → (date : Date) × (week_of facts.tables.calendar date ≡ Some number) × (week_at (Some facts) column row ≡ codes "<td>" ++ (escaped (decimal number) ++ ((codes " <i>" ++ (escaped (date_text (has_years facts.tables.calendar) date) ++ codes "</i>")) ++ codes "</td>"))) }
+    ensures said { (facts : Facts) (column : ℕ) (row : RowView) (number : ℕ) → IsShopCalendar facts.tables.calendar → AreDates facts.tables.calendar facts.dates → IsInRange 1 facts.tables.calendar.weeks number → cell_at row column ≡ decimal number → (date : Date) × (week_of facts.tables.calendar date ≡ Some number) × (date_at (Some facts) column row ≡ codes " (" ++ (escaped (date_text (has_years facts.tables.calendar) date) ++ codes ")")) }
     ensures order { (tables : Option Facts) (row : RowView) → (front : List ℕ) × (dated_html tables order row ≡ front ++ (week_at tables (column section.Orders (codes "due")) row ++ (number_at (column section.Orders (codes "quantity")) row ++ (number_at (column section.Orders (codes "start")) row ++ (week_at tables (column section.Orders (codes "release")) row ++ (number_at (column section.Orders (codes "late")) row ++ (codes "</tr>\n" ++ []))))))) }
     ensures to_week { (tables : Option Facts) (message : RowView) → dated_html tables to_week message ≡ week_at tables (column section.Messages (codes "value")) message ++ (codes "</tr>\n" ++ []) }
-    ensures peg { (tables : Option Facts) (peg : RowView) → (front : List ℕ) × (dated_html tables peg_back peg ≡ front ++ (week_at tables (column section.Pegs (codes "week")) peg ++ (codes "</tr>\n" ++ []))) }
-    ensures at_risk { (tables : Option Facts) (peg order : RowView) (pieces : List ℕ) → dated_html tables risk_middle (drawn_risk peg order pieces) ≡ codes "</td>" ++ (number_html pieces ++ (week_at tables (column section.Pegs (codes "week")) peg ++ (codes "<td class=t>" ++ []))) }
-    ensures runs_out { (scene : SceneView) (week : RowView) → (back : List ℕ) × (dated_html scene.tables out_cells (out_row scene week) ≡ codes "</th>" ++ (week_at scene.tables (column section.Plan (codes "week")) week ++ back)) }
-    ensures call { (tables : Option Facts) (call : RowView) → dated_html tables refused_asked call ≡ codes "</td>" ++ (number_at (column section.History (codes "quantity")) call ++ (week_at tables (column section.History (codes "week")) call ++ [])) }
+    ensures peg { (scene : SceneView) (peg : RowView) → (front : List ℕ) × (peg_html scene peg ≡ front ++ (week_at scene.tables (column section.Pegs (codes "week")) peg ++ (codes "</tr>\n" ++ []))) }
+    ensures at_risk { (scene : SceneView) (peg latest : RowView) (pieces : List ℕ) → (front : List ℕ) × (back : List ℕ) × (risk_line scene (drawn_risk peg latest pieces) ≡ front ++ (number_html pieces ++ (week_at scene.tables (column section.Pegs (codes "week")) peg ++ back))) }
+    ensures runs_out { (scene : SceneView) (week : RowView) → (front : List ℕ) × (back : List ℕ) × (out_line scene (out_row scene week) ≡ front ++ (week_at scene.tables (column section.Plan (codes "week")) week ++ back)) }
+    ensures call { (scene : SceneView) (call : RowView) → (front : List ℕ) × (back : List ℕ) × (refused_html scene call ≡ front ++ (number_at (column section.History (codes "quantity")) (asked_of scene.history call) ++ (week_at scene.tables (column section.History (codes "week")) (asked_of scene.history call) ++ back))) }
     ensures entry { (tables : Option Facts) (row : RowView) → (front : List ℕ) × (back : List ℕ) × (dated_html tables entry row ≡ front ++ (week_at tables (column section.History (codes "week")) row ++ (number_at (column section.History (codes "quantity")) row ++ back))) }
+    ensures history { (tables : Option Facts) (history : List RowView) (missed : ℕ) → (front : List ℕ) × (back : List ℕ) × (history_html tables history missed ≡ front ++ (flat_map (dated_html tables entry) history ++ back)) }
     ensures operation { (tables : Option Facts) (order : RowView) → dated_html tables work_back order ≡ number_at (column section.Orders (codes "start")) order ++ (week_at tables (column section.Orders (codes "due")) order ++ (number_at (column section.Orders (codes "late")) order ++ (codes "</tr>\n" ++ []))) }
-    ensures overload { (tables : Option Facts) (row : RowView) → (front : List ℕ) × (back : List ℕ) × (dated_html tables over_line row ≡ front ++ (codes "</a>, week " ++ (escaped (cell_at row (column section.Loads (codes "week"))) ++ (date_at tables (column section.Loads (codes "week")) row ++ back)))) }
-    ensures explained { (tables : Option Facts) (row : RowView) → (front : List ℕ) × (back : List ℕ) × (dated_html tables work_open row ≡ front ++ (codes "</a>, week " ++ (escaped (cell_at row (column section.Loads (codes "week"))) ++ (date_at tables (column section.Loads (codes "week")) row ++ back)))) }
+    ensures overload { (tables : Option Facts) (row : RowView) → (front : List ℕ) × (back : List ℕ) × (dated_html tables over_words row ≡ front ++ (codes "</a>, week " ++ (escaped (cell_at row (column section.Loads (codes "week"))) ++ (date_at tables (column section.Loads (codes "week")) row ++ back)))) }
+    ensures plain { (tables : Option Facts) (load : RowView) → plain_html tables load ≡ bullet_open ++ (dated_html tables over_words (share_row load) ++ bullet_end) }
+    ensures explained { (scene : SceneView) (orders : List RowView) (load : RowView) (works : List Work) → (back : List ℕ) × (explained_html scene orders load works ≡ work_open ++ (dated_html scene.tables over_words (share_row load) ++ back)) }
     ensures worst { (tables : Option Facts) (rows : List RowView) → (front : List ℕ) × (back : List ℕ) × (dated_html tables overloaded_line (overloaded_row rows) ≡ front ++ (codes "</b> in week " ++ (escaped (cell_at (worst_week rows) (column section.Loads (codes "week"))) ++ (date_at tables (column section.Loads (codes "week")) (worst_week rows) ++ back)))) }
 {}
 
@@ -229,9 +232,9 @@ pub fn operations_make_the_load()
     ensures works { (work : WorkView) (load : RowView) (centre : ℕ) → centre_named work.facts.tables (cell_at load (column section.Loads (codes "centre"))) ≡ Some centre → Contains work.asked load → works_of work load ≡ Some (filter (is_at centre (amount (cell_at load (column section.Loads (codes "week"))))) (all_work work.facts.tables.routings (work_orders work.facts.tables work.orders))) }
     ensures once { (works : List Work) → IsPermutation works (works_first works) }
     ensures order { (works : List Work) → IsNonDecreasingBy falling_time (works_first works) }
-    ensures drawn { (scene : SceneView) (orders : List RowView) (load : RowView) (works : List Work) → operations.total works ≤ amount (cell_at load (column section.Loads (codes "load"))) → works_or_none scene orders load works ≡ row_html work_head (share_row load) ++ (flat_map (work_line scene orders load) (take SOME_ROWS (works_first works)) ++ (more_works_html load (drop SOME_ROWS (works_first works)) ++ (left_html load (amount (cell_at load 2) - operations.total works) ++ work_table_end))) }
+    ensures drawn { (scene : SceneView) (orders : List RowView) (load : RowView) (works : List Work) → operations.total works ≤ amount (cell_at load (column section.Loads (codes "load"))) → works_or_none scene orders load works ≡ row_html work_head (share_row load) ++ (flat_map (work_line scene orders load) (take SOME_ROWS (works_first works)) ++ (more_works_html load (drop SOME_ROWS (works_first works)) ++ (left_html load (amount (cell_at load 2) - operations.total works) ++ grid_end))) }
     ensures too_much { (scene : SceneView) (orders : List RowView) (load : RowView) (works : List Work) → amount (cell_at load (column section.Loads (codes "load"))) < operations.total works → works_or_none scene orders load works ≡ work_unknown }
-    ensures one { (scene : SceneView) (order load : RowView) (work : Work) → order_work scene order load work ≡ task_row ++ (order_name_html scene order ++ (row_html work_operation (count_row work.operation [] []) ++ (time_html load work.time ++ dated_html scene.tables work_back order))) }
+    ensures one { (scene : SceneView) (order load : RowView) (work : Work) → order_work scene order load work ≡ row_open ++ (order_name_html scene order ++ (row_html work_operation (count_row work.operation [] []) ++ (time_html load work.time ++ dated_html scene.tables work_back order))) }
     ensures others { (load : RowView) (work : Work) (works : List Work) → more_works_html load (work ∷ works) ≡ row_html work_rest (count_row (length (work ∷ works)) [] []) ++ (time_html load (operations.total (work ∷ works)) ++ work_blank) }
     ensures left { (load : RowView) (time : ℕ) → 0 < time → left_html load time ≡ work_other ++ (time_html load time ++ work_blank) }
     ensures minutes { (load : RowView) (time : ℕ) → time_html load time ≡ minutes_html (minutes_text_of time) ++ row_html work_share (time_share_row load time) }
@@ -262,10 +265,12 @@ pub fn overloaded_centres_have_their_shares()
 {}
 
 /// The items that run out stand by week: each once, at the first week in which orders are planned to be
-/// received, with its balance less those, and with its safety stock if the tables are given.
+/// received, with its balance less those, and with its safety stock if the tables are given. The first five are shown,
+/// behind how many there are.
 pub fn items_run_out_in_order()
     ensures once { (scene : SceneView) (plan : List RowView) → IsPermutation (map (out_row scene) (leaders [] (filter is_planned plan))) (outs_first scene plan) }
     ensures order { (scene : SceneView) (plan : List RowView) → IsNonDecreasingBy week_rank (outs_first scene plan) }
+    ensures shown { (scene : SceneView) (missed : ℕ) (out : RowView) (outs : List RowView) → outs_html scene missed (out ∷ outs) ≡ row_html outs_note (count_row (length (out ∷ outs)) [] []) ++ outs_table scene (take FEW_ROWS (out ∷ outs)) }
     ensures safety { (facts : Facts) (name : List ℕ) (own : ItemFacts) → item_facts facts.tables name ≡ Some own → safety_cell_html (Some facts) name ≡ number_html (decimal own.item.safety) }
     ensures over { (balance planned : ℕ) → planned ≤ balance → (sign balance planned ≡ []) × (distance balance planned ≡ balance - planned) }
     ensures short { (balance planned : ℕ) → balance < planned → (sign balance planned ≡ codes "-") × (distance balance planned ≡ planned - balance) }
@@ -307,7 +312,7 @@ pub fn kinds_have_their_words()
 /// from 1, as in each plan. The pieces and the week of an open order are its receipt's, or without one its pieces
 /// are what its pegs have together, if all pegs are kept.
 pub fn messages_have_their_orders()
-    ensures order { (kind : Kind) (scene : SceneView) (message order : RowView) → order_of scene message ≡ Some order → task_line kind scene message ≡ task_row ++ (item_name_html scene.shown (cell_at message 0) ++ (task_middle ++ (linked_html scene (Some order) (row_html task_supply message) ++ (codes "</td>" ++ (dated_html scene.tables kind.order order ++ dated_html scene.tables kind.value message))))) }
+    ensures order { (kind : Kind) (scene : SceneView) (message order : RowView) → order_of scene message ≡ Some order → task_line kind scene message ≡ row_open ++ (item_name_html scene.shown (cell_at message 0) ++ (task_middle ++ (linked_html scene (Some order) (row_html task_supply message) ++ (codes "</td>" ++ (dated_html scene.tables kind.order order ++ dated_html scene.tables kind.value message))))) }
     ensures of_message { (scene : SceneView) (message : RowView) → order_of scene message ≡ ordered scene (cell_at message (column section.Messages (codes "item"))) (cell_at message (column section.Messages (codes "supply"))) (cell_at message (column section.Messages (codes "source"))) }
     ensures placed { (scene : SceneView) (name : List ℕ) (place : ℕ) (order : RowView) → place < MOST_AMOUNT → slice_get (rows_named name scene.orders) place ≡ Some order → cell_at order (column section.Orders (codes "order")) ≡ decimal (place + 1) → ordered scene name (cell_at order (column section.Orders (codes "kind"))) (decimal (place + 1)) ≡ Some order }
     ensures parent { (scene : SceneView) (name : List ℕ) (place : ℕ) (order : RowView) → place < MOST_AMOUNT → slice_get (rows_named name scene.orders) place ≡ Some order → cell_at order (column section.Orders (codes "order")) ≡ decimal (place + 1) → numbered scene name (decimal (place + 1)) ≡ Some order }
@@ -336,7 +341,7 @@ pub fn messages_stand_under_their_words()
 /// week of its receipt, or without one the pieces of its pegs, if all pegs are kept.
 pub fn sentences_have_their_orders()
     ensures sentence { (scene : SceneView) (message : RowView) → said_html scene message ≡ row_html (front_of message) message ++ (linked_html scene (order_of scene message) (row_html task_supply message) ++ (said_known scene message (order_of scene message) ++ dated_html scene.tables (back_of message) message)) }
-    ensures released { (tables : Option Facts) (message order : RowView) → is_release message ≡ true → said_order tables message order ≡ row_html said_pieces (pieces_row (cell_at order (column section.Orders (codes "quantity")))) ++ (codes ", start " ++ (escaped (cell_at order (column section.Orders (codes "start"))) ++ (codes ", due week " ++ (escaped (cell_at order (column section.Orders (codes "due"))) ++ (date_at tables (column section.Orders (codes "due")) order ++ []))))) }
+    ensures released { (tables : Option Facts) (message order : RowView) → is_release message ≡ true → said_order tables message order ≡ row_html said_pieces (pieces_row (cell_at order (column section.Orders (codes "quantity")))) ++ (codes ", " ++ (escaped (cell_at order (column section.Orders (codes "start"))) ++ (codes " to start, due week " ++ (escaped (cell_at order (column section.Orders (codes "due"))) ++ (date_at tables (column section.Orders (codes "due")) order ++ []))))) }
     ensures moved { (tables : Option Facts) (message order : RowView) → is_release message ≡ false → said_order tables message order ≡ row_html said_pieces (pieces_row (cell_at order (column section.Orders (codes "quantity")))) ++ (codes ", week " ++ (escaped (cell_at order (column section.Orders (codes "due"))) ++ (date_at tables (column section.Orders (codes "due")) order ++ []))) }
     ensures open_order { (scene : SceneView) (message : RowView) → scene.whole ≡ true → cell_at message (column section.Messages (codes "supply")) ≡ codes "open" → said_of_open scene message ≡ row_html said_pieces (pieces_row (decimal (open_count scene message))) }
     ensures received { (scene : SceneView) (message : RowView) (receipt : Receipt) → receipt_of scene.tables message ≡ Some receipt → said_known scene message None ≡ row_html said_pieces (pieces_row (decimal receipt.quantity)) ++ (codes ", week " ++ (escaped (decimal receipt.week) ++ (said_date (date_in scene.tables (decimal receipt.week)) ++ []))) }
@@ -447,12 +452,19 @@ pub fn messages_stand_in_order()
     ensures value { (message : RowView) → value_rank message ≡ rank (cell_at message (column section.Messages (codes "value"))) }
 {}
 
-/// The counts of the summary are those of the rows of the parts that they lead to, and stand in links to these.
+/// The counts of the summary are those of the rows of the parts that they lead to, and stand in links to these. If a page does
+/// not show all items, its head says how many it shows.
 pub fn counts_are_of_their_parts()
     ensures kinds { (messages : List RowView) (kind : Kind) → count_with (column section.Messages (codes "message")) kind.word messages ≡ length (messages_of messages kind) }
     ensures short { (history : List RowView) → count_with (column section.History (codes "reply")) (codes "short") history ≡ length (with_word (column section.History (codes "reply")) history (codes "short")) }
     ensures undone { (history : List RowView) → count_by is_undone history ≡ length (filter is_undone history) }
     ensures tile { (count : ℕ) (mark place what : List ℕ) → (front : List ℕ) × (tile_html count mark place what ≡ front ++ (codes "\" href=\"#" ++ (escaped place ++ (codes "\"><b>" ++ (escaped (decimal count) ++ (codes "</b>" ++ (escaped what ++ (codes "</a>" ++ [])))))))) }
+    ensures risk { (rows : List RowView) → risk_tile (record { known = true; rows = rows }) ≡ tile_html (length rows) (codes "late") (codes "risk") (codes "at risk") }
+    ensures centres { (loads : List RowView) → cell_at (over_tile loads) 0 ≡ decimal (length (leaders [] (filter is_over loads))) }
+    ensures all_centres { (loads : List RowView) → cell_at (over_tile loads) 4 ≡ decimal (length (leaders [] loads)) }
+    ensures items { (items few : ℕ) → few < items → shown_html items few ≡ codes ", on this page: <b>" ++ (escaped (decimal few) ++ (codes "</b>" ++ [])) }
+    ensures head { (title : List ℕ) (tables : Option Facts) (notes : Noted) (risks : RisksView) → (rest : List ℕ) × (page_html title tables notes risks ≡ top_html title tables notes.report notes.counts.items (length (shown_items (item_lists notes.report))) ++ rest) }
+    ensures top { (title : List ℕ) (tables : Option Facts) (report : List RowView) (items few : ℕ) → top_html title tables report items few ≡ head_html tables (heading title report items) ++ (shown_html items few ++ head_end) }
     ensures page { (title : List ℕ) (tables : Option Facts) (notes : Noted) (risks : RisksView) → (front : List ℕ) × (back : List ℕ) × (page_html title tables notes risks ≡ front ++ (summary_html notes.history (rows_in section.Messages notes.report) (rows_in section.Loads notes.report) risks ++ back)) }
 {}
 

@@ -3,19 +3,19 @@
 ghost use Rattle.std.specs.Prelude.{◌≡◌, ◌++◌, IfOk, OnOk, flat_map, map, take};
 ghost use Rattle.mrp_page.specs.ItemRows.{item_lists};
 ghost use Rattle.std.specs.Option.{option_copied};
-ghost use Rattle.mrp_page.specs.Page.{glance_html, head_html, is_told, items_of, page_html, page_of, rest_html, told_first, top_html, untold_rows, AreRisksIn};
+ghost use Rattle.mrp_page.specs.Page.{glance_html, head_html, is_told, items_of, page_html, page_of, rest_html, shown_html, told_first, top_html, untold_rows, AreRisksIn};
 ghost use Rattle.mrp_page.specs.AtRisk.{RisksView};
 
 use crate::centres::put_centres;
 use crate::counts::Counts;
 use crate::draw::{put_history, put_more_items};
-use crate::frame::heading;
+use crate::frame::{count_row, heading};
 use crate::html::Html;
 use crate::item_rows::ItemRows;
 use crate::items::{put_index, put_items};
 use crate::kinds::put_todo;
 use crate::layout::glance::glance_open;
-use crate::layout::head::{page_end, page_head, page_items, page_top, style};
+use crate::layout::head::{head_end, page_end, page_head, page_items, page_shown, page_top, style};
 use crate::layout::lists::section_end;
 use crate::limits::MOST_ITEMS;
 use crate::notes::Notes;
@@ -140,7 +140,19 @@ fn put_rest(
     page.markup(page_end())
 }
 
-// Adds the head of a page: its title, and the entry that its run plans from.
+// Adds how many items are on the page, if these are not all.
+#[tactic(auto, unfolding(crate::specs::Page::shown_html))]
+fn put_shown(alloc: Global, page: &mut Html, items: u64, shown: u64) -> Result<(), NoMemory>
+    ensures { OnOk result (page.new ≡ page.old ++ shown_html items shown) }
+{
+    if items <= shown {
+        return Ok(());
+    }
+    let count = count_row(alloc, shown, b"", b"")?;
+    put_row(page, page_shown(), &count)
+}
+
+// Adds the head of a page: its title, the entry that its run plans from, and its items.
 #[tactic(auto, unfolding(crate::specs::Page::top_html))]
 fn put_top(
     alloc: Global,
@@ -149,11 +161,14 @@ fn put_top(
     tables: Option<&Facts<'_>>,
     report: &[Row],
     items: u64,
+    shown: u64,
 ) -> Result<(), NoMemory>
-    ensures { OnOk result (page.new ≡ page.old ++ top_html title.now (option_copied tables.entry) report.now items) }
+    ensures { OnOk result (page.new ≡ page.old ++ top_html title.now (option_copied tables.entry) report.now items shown) }
 {
     let heading = heading(alloc, title, report, items)?;
-    put_head(page, tables, &heading)
+    put_head(page, tables, &heading)?;
+    put_shown(alloc, page, items, shown)?;
+    page.markup(head_end())
 }
 
 // Adds what stands at a glance: the items that run out first, and the most overloaded work centres.
@@ -193,7 +208,16 @@ fn put_page_of(
     let messages = rows.messages().rows();
     let loads = rows_in(report, Section::Loads);
     let counts = notes.counts();
-    put_top(alloc, page, title, scene.tables(), report, counts.items)?;
+    let shown = scene.count_shown();
+    put_top(
+        alloc,
+        page,
+        title,
+        scene.tables(),
+        report,
+        counts.items,
+        shown,
+    )?;
     put_summary(alloc, page, notes.history(), messages, loads, risks)?;
     put_glance(alloc, page, scene, report, counts.plan)?;
     put_refused(alloc, page, scene, counts.history)?;

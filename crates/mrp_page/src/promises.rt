@@ -10,8 +10,7 @@ use crate::draw::put_item_name;
 use crate::folded::{Lines, put_capped};
 use crate::html::Html;
 use crate::items::put_entry;
-use crate::layout::lists::{section_end, table_end};
-use crate::layout::refused::refused_row;
+use crate::layout::lists::{row_open, section_end, table_end};
 use crate::layout::risk::{
     none_at_risk, risk_booking, risk_front, risk_middle, risk_note, risk_open, risk_order,
     risks_unknown,
@@ -206,7 +205,7 @@ impl Lines for RiskLines<'_, '_, '_> {
 
     #[tactic(auto, unfolding(crate::specs::Promises::risk_line))]
     fn put(&self, page: &mut Html, risk: &Row) -> Result<(), NoMemory> {
-        page.markup(refused_row())?;
+        page.markup(row_open())?;
         put_item_name(page, self.scene.shown(), risk.name())?;
         page.markup(risk_booking())?;
         put_entry(page, self.scene, risk.cell(2))?;

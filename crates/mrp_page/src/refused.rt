@@ -9,10 +9,10 @@ use crate::draw::{put_item_name, put_more};
 use crate::folded::{Lines, put_folded};
 use crate::html::Html;
 use crate::items::put_entry;
-use crate::layout::lists::{link_end, link_middle, section_end, table_end};
+use crate::layout::lists::{link_end, link_middle, row_open, section_end, table_end};
 use crate::layout::refused::{
     entry_link_open, none_refused, refused_answer, refused_asked, refused_desk, refused_end,
-    refused_front, refused_open, refused_row,
+    refused_front, refused_open,
 };
 use crate::limits::FEW_ROWS;
 use crate::row::Row;
@@ -103,7 +103,7 @@ fn put_caller(page: &mut Html, scene: &Scene<'_, '_>, call: &Row) -> Result<(), 
 fn put_call(page: &mut Html, scene: &Scene<'_, '_>, asked: &Row, call: &Row) -> Result<(), NoMemory>
     ensures { OnOk result (page.new ≡ page.old ++ call_html scene.now asked.now call.now) }
 {
-    page.markup(refused_row())?;
+    page.markup(row_open())?;
     put_item_name(page, scene.shown(), asked.cell(3))?;
     put_answer(page, scene, call)?;
     put_dated(page, scene.tables(), refused_asked(), asked)?;

@@ -1,6 +1,6 @@
 //! What messages, orders and pegs are drawn from.
 
-ghost use Rattle.std.specs.Prelude.{◌≡◌, [], IfOk, map};
+ghost use Rattle.std.specs.Prelude.{◌≡◌, [], IfOk, length, map};
 ghost use Rattle.std.specs.Option.{option_map_or, option_copied};
 ghost use Rattle.mrp_page.specs.Draw.{has_item};
 ghost use Rattle.mrp_page.specs.Pegs.{pieces_of_order, waits_for};
@@ -75,6 +75,13 @@ impl<'s, 'a> Scene<'s, 'a> {
         ensures { map (λ r. r.now) result.now ≡ self.now.shown }
     {
         self.shown
+    }
+
+    // How many items are shown.
+    pub(crate) fn count_shown(&self) -> u64
+        ensures { result ≡ length self.now.shown }
+    {
+        self.shown.len() as u64
     }
 
     pub(crate) fn history(&self) -> &'a [Row]

@@ -11,7 +11,7 @@ use Rattle.mrp_page.specs.Amounts.{amount}
 use Rattle.mrp_page.specs.Centres.{all_loads, centre_html, centres_back, each_centre, explained_note, framed_centre, later_loads, load_section, loads_html, loads_table, over_listing, over_or_none, shares_html, times_html, work_in}
 use Rattle.mrp_page.specs.Draw.{has_none, more_html, table_html}
 use Rattle.mrp_page.specs.Escaped.{escaped}
-use Rattle.mrp_page.specs.Explained.{explained_html, explained_or_plain, explained_texts, order_name_html, order_work, left_html, overload_html, more_works_html, time_html, time_share, time_share_row, time_texts, work_line, work_texts, works_first, works_or_none, works_table, falling_time}
+use Rattle.mrp_page.specs.Explained.{explained_html, explained_or_plain, explained_texts, falling_time, left_html, more_works_html, order_name_html, order_work, overload_html, plain_html, time_html, time_share, time_share_row, time_texts, work_line, work_texts, works_first, works_or_none, works_table}
 use Rattle.mrp_page.specs.Folded.{capped_html}
 use Rattle.mrp_page.specs.Frame.{count_row}
 use Rattle.mrp_page.specs.Html.{is_zero}
@@ -19,12 +19,11 @@ use Rattle.std.proofs.lemmas.List.Sorted.{All-permutation}
 use Rattle.mrp_page.specs.Sorted.{sorted_by}
 use Rattle.mrp_page.proofs.ByKey.{sorted-permutes}
 use Rattle.mrp_page.specs.Known.{centre_texts, load_texts, own_words, small_words}
-use Rattle.mrp_page.specs.layout.Centres.{above_bar, above_end, capacity_label, centre_head, centre_open, centres_open, cut_bar, hot_bar, hot_end, load_chart, load_end, load_label, low_bar, low_end, none_over, over_label, over_line, over_open, share_cell, share_label}
+use Rattle.mrp_page.specs.layout.Centres.{above_bar, above_end, capacity_label, centre_head, centre_open, centres_open, cut_bar, hot_bar, hot_end, load_chart, load_end, load_label, low_bar, low_end, none_over, over_label, over_open, over_words, share_cell, share_label}
 use Rattle.mrp_page.specs.layout.Glance.{overloaded_line, overloaded_open}
-use Rattle.mrp_page.specs.layout.Lists.{grid_end, rest_end, section_end, title_end, title_open}
+use Rattle.mrp_page.specs.layout.Lists.{bullet_end, bullet_open, grid_end, rest_end, row_open, section_end, title_end, title_open}
 use Rattle.mrp_page.specs.layout.Records.{later_open}
-use Rattle.mrp_page.specs.layout.Todo.{task_row}
-use Rattle.mrp_page.specs.layout.Work.{work_back, work_blank, work_count, work_end, work_head, work_name, work_note, work_open, work_operation, work_other, work_rest, work_share, work_table_end, work_unknown}
+use Rattle.mrp_page.specs.layout.Work.{work_back, work_blank, work_count, work_end, work_head, work_name, work_note, work_open, work_operation, work_other, work_rest, work_share, work_unknown}
 use Rattle.mrp_page.specs.Overloaded.{falling_rate, first_share, most_overloaded, name_of, overloaded, overloaded_first, overloaded_html, overloaded_row, share_of_all, share_sign, share_words, weeks_of, worst_week}
 use Rattle.mrp_page.specs.Pictured.{bars_html, centre_frame, picture_html}
 use Rattle.mrp_page.specs.Row.{RowView, cell_at}
@@ -41,7 +40,8 @@ use Rattle.mrp_work.specs.Work.{total}
 use Rattle.mrp_qty.specs.Minutes.{minutes_text_of}
 use Rattle.mrp_day.specs.declared.section.Section.TheVariants as s
 use Rattle.mrp_page.proofs.made.Facts.{Made, TablesKnown, Vocabulary, WorksKnown}
-use Rattle.mrp_page.proofs.made.Own.{laid-above_bar, laid-centre_head, laid-centre_open, laid-cut_bar, laid-hot_bar, laid-load_chart, laid-load_end, laid-low_bar, laid-over_line, laid-over_open, laid-overloaded_line, laid-share_cell, laid-work_back, laid-work_count, laid-work_head, laid-work_name, laid-work_open, laid-work_operation, laid-work_rest, laid-work_share, own-above_end, own-capacity_label, own-cell, own-cell-end, own-centres_open, own-empty, own-grid_end, own-hot_end, own-later_open, own-load_label, own-low_end, own-none, own-none_over, own-over_back, own-over_front, own-over_label, own-overloaded_open, own-rest_end, own-row-end, own-section_end, own-share_label, own-task_row, own-title_end, own-title_open, own-work_blank, own-work_end, own-work_note, own-work_other, own-work_table_end, own-work_unknown}
+use Rattle.mrp_page.proofs.made.Laid.{laid-above_bar, laid-centre_head, laid-centre_open, laid-cut_bar, laid-hot_bar, laid-load_chart, laid-load_end, laid-low_bar, laid-over_open, laid-over_words, laid-overloaded_line, laid-share_cell, laid-work_back, laid-work_count, laid-work_head, laid-work_name, laid-work_operation, laid-work_rest, laid-work_share}
+use Rattle.mrp_page.proofs.made.Plain.{own-above_end, own-bullet_end, own-bullet_open, own-capacity_label, own-cell, own-cell-end, own-centres_open, own-empty, own-grid_end, own-hot_end, own-later_open, own-list_end, own-load_label, own-low_end, own-none, own-none_over, own-over_front, own-over_label, own-overloaded_open, own-rest_end, own-row-end, own-row_open, own-section_end, own-share_label, own-title_end, own-title_open, own-work_blank, own-work_end, own-work_note, own-work_open, own-work_other, own-work_unknown}
 use Rattle.mrp_page.proofs.made.Pieces.{Counted, capped, counted, dated-row, each, either, further, join, knows, mark, none, nothing, row, rows-of, small, table, table-dated, table-row, text, unit}
 use Rattle.mrp_page.proofs.made.Records.{top-known, weeks-of-rows}
 use Rattle.mrp_page.proofs.made.Rows.{all-leaders, all-named, contains-flat}
@@ -193,7 +193,7 @@ module _ (v : Vocabulary) where
       let numbered-of : List ℕ = row_html work_operation (count_row work.operation [] []) in
       let timed : List ℕ = time_html load work.time in
       let back : List ℕ = dated_html scene.tables work_back r in
-      join v task_row (named ++ (numbered-of ++ (timed ++ back))) (mark v task_row own-task_row)
+      join v row_open (named ++ (numbered-of ++ (timed ++ back))) (mark v row_open own-row_open)
       (join v named (numbered-of ++ (timed ++ back)) (order-named scene seen r known)
       (join v numbered-of (timed ++ back) (table-row v work_operation (count_row work.operation [] []) laid-work_operation (counted v work.operation [] [] (texts 0 [] (omega arith)) (nothing v) (nothing v)))
       (join v timed back (a-time load work.time (λ k d within. texts (suc k) d (omega (arith, within)))) (table-dated v scene.tables seen.of-tables work_back r laid-work_back known))))
@@ -258,31 +258,39 @@ module _ (v : Vocabulary) where
       let lines : List ℕ = flat_map (work_line scene orders load) (take SOME_ROWS first) in
       let rest : List ℕ = more_works_html load (drop SOME_ROWS first) in
       let other-of : List ℕ = left_html load (amount (cell_at load 2) - total works) in
-      join v head (lines ++ (rest ++ (other-of ++ work_table_end))) (table-row v work_head (share_row load) laid-work_head (share-known load known))
-      (join v lines (rest ++ (other-of ++ work_table_end))
+      join v head (lines ++ (rest ++ (other-of ++ grid_end))) (table-row v work_head (share_row load) laid-work_head (share-known load known))
+      (join v lines (rest ++ (other-of ++ grid_end))
       (each v (λ (work : Work). All v.Known (work_texts load work)) (work_line scene orders load) (λ work is. a-work scene seen (row_at orders work.order) load work (row-known orders of-orders work.order) is) (take SOME_ROWS first) (All-take (λ (work : Work). All v.Known (work_texts load work)) SOME_ROWS first of-first))
-      (join v rest (other-of ++ work_table_end) (the-rest load (drop SOME_ROWS first) texts.rest-of texts.rest-time)
-      (join v other-of work_table_end (what-else load (amount (cell_at load 2) - total works) texts.other-time) (mark v work_table_end own-work_table_end))))
+      (join v rest (other-of ++ grid_end) (the-rest load (drop SOME_ROWS first) texts.rest-of texts.rest-time)
+      (join v other-of grid_end (what-else load (amount (cell_at load 2) - total works) texts.other-time) (mark v grid_end own-grid_end))))
+
+  over-words : (tables : Option Facts) → TablesKnown v.Known tables → (r : RowView) → LoadKnown r → Made v (dated_html tables over_words (share_row r))
+  over-words tables of r known = dated-row v tables of over_words (share_row r) laid-over_words (share-known r known)
 
   explained : (scene : SceneView) → SceneKnown v scene → (orders : List RowView) → All (λ (r : RowView). (column : ℕ) → v.Known (cell_at r column)) orders → (load : RowView) → LoadKnown load → (works : List Work) → WorkKnown load works → Made v (explained_html scene orders load works)
   unfolding explained_html works_or_none small_words
   explained scene seen orders of-orders load known works texts =
-      let head : List ℕ = dated_html scene.tables work_open (share_row load) in
+      let words : List ℕ = dated_html scene.tables over_words (share_row load) in
       let count : List ℕ = row_html work_count (count_row (length works) (codes "operation") (codes "operations")) in
       let inner : List ℕ = works_or_none scene orders load works in
-      join v head (count ++ (inner ++ work_end)) (table-dated v scene.tables seen.of-tables work_open (share_row load) laid-work_open (share-known load known))
+      join v work_open (words ++ (count ++ (inner ++ work_end))) (mark v work_open own-work_open)
+      (join v words (count ++ (inner ++ work_end)) (over-words scene.tables seen.of-tables load known)
       (join v count (inner ++ work_end) (table-row v work_count (count_row (length works) (codes "operation") (codes "operations")) laid-work_count (counted v (length works) (codes "operation") (codes "operations") texts.all-of (small v (codes "operation") 46 (omega arith) refl) (small v (codes "operations") 47 (omega arith) refl)))
       (join v inner work_end
       (either v (nat_le (total works) (amount (cell_at load 2))) (works_table scene orders load works) work_unknown (the-works scene seen orders of-orders load known works texts) (mark v work_unknown own-work_unknown))
-      (mark v work_end own-work_end)))
+      (mark v work_end own-work_end))))
 
   -- an overload: its cells, and what is known of the operations that load it
   record OverKnown (ls : List RowView) (r : RowView) : Type 0 where
     load-of : LoadKnown r
     kept-in : Contains ls r
 
-  plain-over : (tables : Option Facts) → TablesKnown v.Known tables → (r : RowView) → LoadKnown r → Made v (dated_html tables over_line (share_row r))
-  plain-over tables of r known = dated-row v tables of over_line (share_row r) laid-over_line (share-known r known)
+  plain-over : (tables : Option Facts) → TablesKnown v.Known tables → (r : RowView) → LoadKnown r → Made v (plain_html tables r)
+  unfolding plain_html
+  plain-over tables of r known =
+      let words : List ℕ = dated_html tables over_words (share_row r) in
+      join v bullet_open (words ++ bullet_end) (mark v bullet_open own-bullet_open)
+      (join v words bullet_end (over-words tables of r known) (mark v bullet_end own-bullet_end))
 
   an-over : (scene : SceneView) → SceneKnown v scene → (work : Option WorkView) (ls : List RowView) → OrdersKnown v work → WorksKnown v.Known work ls → (r : RowView) → OverKnown ls r → Made v (overload_html scene work r)
   an-over scene seen None ls of-orders of-works r known = plain-over scene.tables seen.of-tables r known.load-of
@@ -300,7 +308,7 @@ module _ (v : Vocabulary) where
       either v (has_none rs && (missed == 0)) none_over (head ++ (explained_note work ++ lines)) (mark v none_over own-none_over)
       (join v head (explained_note work ++ lines) (row v over_open (count_row (length rs) [] []) laid-over_open (counted v (length rs) [] [] counts.all-of (nothing v) (nothing v)))
       (join v (explained_note work) lines (note work)
-      (capped v (OverKnown ls) (over_listing scene work) rs own-over_front own-over_back (λ r known. an-over scene seen work ls of-orders of-works r known) all counts)))
+      (capped v (OverKnown ls) (over_listing scene work) rs own-over_front own-list_end (λ r known. an-over scene seen work ls of-orders of-works r known) all counts)))
     where
       note : (o : Option WorkView) → Made v (explained_note o)
       note None = none v

@@ -15,10 +15,9 @@ use Rattle.mrp_page.specs.Sorted.{sorted_by}
 use Rattle.mrp_page.proofs.ByKey.{sorted-permutes}
 use Rattle.mrp_page.specs.Known.{centre_texts, count_texts, index_texts, item_texts, list_counts, listed_texts, load_texts, open_texts, out_texts, outs_texts, overloaded_texts, own_counts, row_lists, small_words, own_scene, risk_texts}
 use Rattle.mrp_page.specs.layout.Glance.{glance_open, none_out, out_cells, out_first_open, out_late, outs_front, outs_head_end, outs_note, outs_safety}
-use Rattle.mrp_page.specs.layout.Lists.{section_end, table_end}
-use Rattle.mrp_page.specs.layout.Refused.{refused_row}
+use Rattle.mrp_page.specs.layout.Lists.{row_open, section_end, table_end}
 use Rattle.mrp_page.specs.layout.Risk.{none_at_risk, risk_booking, risk_middle, risk_note, risk_open, risk_order, risks_unknown}
-use Rattle.mrp_page.specs.layout.Todo.{task_row, weeks_late}
+use Rattle.mrp_page.specs.layout.Todo.{weeks_late}
 use Rattle.mrp_page.specs.Notes.{Noted}
 use Rattle.mrp_page.specs.Outs.{falling_late, first_planned, is_planned, lateness, left_in, out_line, out_row, outs_back, outs_first, outs_html, outs_section, outs_table, safety_head, short_weeks, sign}
 use Rattle.mrp_page.specs.Page.{glance_html, scene_in, shown_items}
@@ -36,7 +35,8 @@ use Rattle.mrp_page.specs.declared.limits.TheConstants.{FEW_ROWS, SOME_ROWS}
 use Rattle.mrp_day.specs.declared.section.Section.TheVariants as s
 use Rattle.mrp_page.proofs.made.Centres.{LoadKnown, most-known, most-of}
 use Rattle.mrp_page.proofs.made.Facts.{Made, Vocabulary}
-use Rattle.mrp_page.proofs.made.Own.{laid-out_cells, laid-out_late, laid-outs_note, laid-risk_middle, laid-risk_order, laid-weeks_late, own-cell-end, own-glance_open, own-none_at_risk, own-none_out, own-out_first_open, own-outs_front, own-outs_head_end, own-outs_safety, own-refused_row, own-risk_booking, own-risk_front, own-risk_note, own-risk_open, own-risks_unknown, own-section_end, own-table_end, own-task_row}
+use Rattle.mrp_page.proofs.made.Laid.{laid-out_cells, laid-out_late, laid-outs_note, laid-risk_middle, laid-risk_order, laid-weeks_late}
+use Rattle.mrp_page.proofs.made.Plain.{own-cell-end, own-glance_open, own-none_at_risk, own-none_out, own-out_first_open, own-outs_front, own-outs_head_end, own-outs_safety, own-row_open, own-risk_booking, own-risk_front, own-risk_note, own-risk_open, own-risks_unknown, own-section_end, own-table_end}
 use Rattle.mrp_page.proofs.made.Pieces.{Counted, capped, counted, dated-row, each, either, entry-name, further, item-name, join, knows, mark, none, nothing, row, small}
 use Rattle.mrp_page.proofs.made.Records.{safety-cell}
 use Rattle.mrp_page.proofs.made.Rows.{all-leaders, all-named, contains-flat}
@@ -122,7 +122,7 @@ module _ (v : Vocabulary) where
       let cells : List ℕ = dated_html scene.tables out_cells r in
       let stock : List ℕ = safety_cell_html scene.tables (cell_at r 0) in
       let last : List ℕ = row_html out_late r in
-      join v task_row (name ++ (cells ++ (stock ++ last))) (mark v task_row own-task_row)
+      join v row_open (name ++ (cells ++ (stock ++ last))) (mark v row_open own-row_open)
       (join v name (cells ++ (stock ++ last)) (item-name v scene.shown (cell_at r 0) seen.led (known 0))
       (join v cells (stock ++ last) (dated-row v scene.tables seen.of-tables out_cells r laid-out_cells known)
       (join v stock last (safety-cell v scene.tables seen.of-tables (cell_at r 0)) (row v out_late r laid-out_late known))))
@@ -182,7 +182,7 @@ module _ (v : Vocabulary) where
       let says : List ℕ = row_html risk_order r in
       let waits-for : List ℕ = linked_html scene (ordered scene (cell_at r 5) (cell_at r 7) (cell_at r 6)) says in
       let weeks-of : List ℕ = row_html weeks_late r in
-      join v refused_row (name ++ (risk_booking ++ (booking ++ (cells ++ (waits-for ++ (codes "</td>" ++ weeks-of)))))) (mark v refused_row own-refused_row)
+      join v row_open (name ++ (risk_booking ++ (booking ++ (cells ++ (waits-for ++ (codes "</td>" ++ weeks-of)))))) (mark v row_open own-row_open)
       (join v name (risk_booking ++ (booking ++ (cells ++ (waits-for ++ (codes "</td>" ++ weeks-of))))) (item-name v scene.shown (cell_at r 0) seen.led (known 0))
       (join v risk_booking (booking ++ (cells ++ (waits-for ++ (codes "</td>" ++ weeks-of)))) (mark v risk_booking own-risk_booking)
       (join v booking (cells ++ (waits-for ++ (codes "</td>" ++ weeks-of))) (entry-name v scene.history (cell_at r 2) seen.kept (known 2))

@@ -11,8 +11,8 @@ use Rattle.mrp_page.specs.ItemRows.{ItemLists}
 use Rattle.mrp_page.specs.Items.{count_html, index_html, index_line, item_html, item_lists_html, items_html, late_html, message_count, need_html, orders_html, parent_of, peg_html, pegs_html, supplier_of, supply_html, wait_html, waits_html}
 use Rattle.mrp_page.specs.Known.{small_words}
 use Rattle.mrp_page.specs.layout.History.{entry, history_end, history_open}
-use Rattle.mrp_page.specs.layout.Items.{index_count, index_end, index_open, item_head, items_end, items_open, lists_open, order, orders_open, peg_back, peg_booking, peg_front, peg_middle, peg_need, peg_parent, peg_supply, pegs_open, wait_end, wait_late, wait_middle, wait_order, wait_supply, waits_open}
-use Rattle.mrp_page.specs.layout.Lists.{grid_end, rest_end, section_end}
+use Rattle.mrp_page.specs.layout.Items.{index_count, item_head, items_end, items_open, lists_open, order, orders_open, peg_back, peg_booking, peg_middle, peg_need, peg_parent, peg_supply, pegs_open, wait_end, wait_late, wait_order, wait_supply, waits_open}
+use Rattle.mrp_page.specs.layout.Lists.{bullet_end, bullet_open, grid_end, rest_end, row_open, section_end}
 use Rattle.mrp_page.specs.layout.Records.{no_promises}
 use Rattle.mrp_page.specs.Outs.{lateness}
 use Rattle.mrp_page.specs.Orders.{is_order, linked_html, passing, place_of}
@@ -26,7 +26,8 @@ use Rattle.mrp_page.specs.Template.{dated_html, has_word, row_html}
 use Rattle.mrp_page.specs.declared.limits.TheConstants.{FEW_ROWS}
 use Rattle.mrp_page.specs.declared.counts.Counts.{Counts}
 use Rattle.mrp_page.proofs.made.Facts.{Made, TablesKnown, Vocabulary}
-use Rattle.mrp_page.proofs.made.Own.{laid-entry, laid-index_count, laid-item_head, laid-order, laid-peg_back, laid-peg_middle, laid-peg_need, laid-peg_parent, laid-peg_supply, laid-wait_late, laid-wait_middle, laid-wait_order, own-grid_end, own-history_end, own-history_open, own-index_end, own-index_open, own-items_end, own-items_open, own-lists_open, own-no_promises, own-orders_open, own-peg_booking, own-peg_front, own-pegs_open, own-rest_end, own-section_end, own-wait_end, own-wait_supply, own-waits_open}
+use Rattle.mrp_page.proofs.made.Laid.{laid-entry, laid-index_count, laid-item_head, laid-order, laid-peg_back, laid-peg_middle, laid-peg_need, laid-peg_parent, laid-peg_supply, laid-wait_late, laid-wait_order}
+use Rattle.mrp_page.proofs.made.Plain.{own-grid_end, own-history_end, own-history_open, own-bullet_end, own-bullet_open, own-items_end, own-items_open, own-lists_open, own-no_promises, own-orders_open, own-peg_booking, own-row_open, own-pegs_open, own-rest_end, own-section_end, own-wait_end, own-wait_supply, own-waits_open}
 use Rattle.mrp_page.proofs.made.Pieces.{counted, dated-row, dated-table, each, either, entry-name, further, item-name, join, link, mark, none, nothing, row, small}
 use Rattle.mrp_page.proofs.made.Records.{item-facts-of, record-or-none}
 use Rattle.mrp_page.proofs.made.Rows.{all-named}
@@ -58,7 +59,7 @@ module _ (v : Vocabulary) where
       let middle : List ℕ = row_html peg_middle r in
       let for-what : List ℕ = need_html scene r in
       let back : List ℕ = dated_html scene.tables peg_back r in
-      join v peg_front (supply ++ (middle ++ (for-what ++ back))) (mark v peg_front own-peg_front)
+      join v row_open (supply ++ (middle ++ (for-what ++ back))) (mark v row_open own-row_open)
       (join v supply (middle ++ (for-what ++ back)) (supply-of scene seen r known)
       (join v middle (for-what ++ back) (row v peg_middle r laid-peg_middle known) (join v for-what back (need scene seen r known) (dated-row v scene.tables seen.of-tables peg_back r laid-peg_back known))))
 
@@ -80,13 +81,13 @@ module _ (v : Vocabulary) where
   a-wait scene seen r known =
       let says : List ℕ = row_html wait_order r in
       let waiting : List ℕ = linked_html scene (parent_of scene r) says in
-      let middle : List ℕ = row_html wait_middle r in
+      let middle : List ℕ = row_html peg_middle r in
       let name : List ℕ = item_name_html scene.shown (cell_at r 0) in
       let supply : List ℕ = supply_html scene r in
       let lateness : List ℕ = late_html (supplier_of scene r) in
-      join v peg_front (waiting ++ (middle ++ (name ++ (wait_supply ++ (supply ++ lateness))))) (mark v peg_front own-peg_front)
+      join v row_open (waiting ++ (middle ++ (name ++ (wait_supply ++ (supply ++ lateness))))) (mark v row_open own-row_open)
       (join v waiting (middle ++ (name ++ (wait_supply ++ (supply ++ lateness)))) (linked-number v scene seen (cell_at r 4) (cell_at r 3) says (row v wait_order r laid-wait_order known))
-      (join v middle (name ++ (wait_supply ++ (supply ++ lateness))) (row v wait_middle r laid-wait_middle known)
+      (join v middle (name ++ (wait_supply ++ (supply ++ lateness))) (row v peg_middle r laid-peg_middle known)
       (join v name (wait_supply ++ (supply ++ lateness)) (item-name v scene.shown (cell_at r 0) seen.led (known 0))
       (join v wait_supply (supply ++ lateness) (mark v wait_supply own-wait_supply)
       (join v supply lateness (supply-of scene seen r known)
@@ -158,7 +159,7 @@ module _ (v : Vocabulary) where
   index-of ms r known =
       let name : List ℕ = link_html (cell_at r 0) in
       let count : List ℕ = count_html (message_count ms r) in
-      join v index_open (name ++ (count ++ index_end)) (mark v index_open own-index_open) (join v name (count ++ index_end) (link v (cell_at r 0) known.led-to) (join v count index_end (a-count (message_count ms r) known.counted-of) (mark v index_end own-index_end)))
+      join v bullet_open (name ++ (count ++ bullet_end)) (mark v bullet_open own-bullet_open) (join v name (count ++ bullet_end) (link v (cell_at r 0) known.led-to) (join v count bullet_end (a-count (message_count ms r) known.counted-of) (mark v bullet_end own-bullet_end)))
 
   pub index : (ms rs : List RowView) → All (IndexKnown ms) rs → Made v (index_html ms rs)
   unfolding index_html

@@ -5,16 +5,17 @@ use Rattle.mrp_page.specs.Dates.{date_in}
 use Rattle.mrp_page.specs.Weeks.{start_html}
 use Rattle.std.proofs.lemmas.List.Elements.{All-cons, All-contains, All-contains_itself, All-nil, Contains-append_left, Contains-append_right}
 use Rattle.std.specs.List.{All, Contains, flat_map}
+use Rattle.std.specs.Prelude.{nat_le}
 use Rattle.mrp_page.specs.Centres.{load_section, work_in}
 use Rattle.mrp_page.specs.Draw.{has_item, history_html, more_items}
-use Rattle.mrp_page.specs.Frame.{heading, last_week}
+use Rattle.mrp_page.specs.Frame.{heading, last_week, count_row}
 use Rattle.mrp_page.specs.ItemRows.{ItemLists, item_lists}
 use Rattle.mrp_page.specs.Items.{index_html, items_html, message_count}
 use Rattle.mrp_page.specs.Kinds.{cancel, earlier, late, later, messages_of, open_count, other_messages, release, todo_html}
 use Rattle.mrp_page.specs.Known.{count_texts, index_texts, item_texts, list_counts, listed_texts, load_texts, open_texts, outs_texts, overloaded_texts, own_counts, row_lists, summary_counts, own_scene, risk_texts}
-use Rattle.mrp_page.specs.layout.Head.{page_end, page_head, page_items, page_top, style}
+use Rattle.mrp_page.specs.layout.Head.{page_end, page_head, page_items, page_top, style, head_end, page_shown}
 use Rattle.mrp_page.specs.Notes.{Noted}
-use Rattle.mrp_page.specs.Page.{glance_html, head_html, items_of, page_html, page_of, rest_html, scene_in, shown_items, top_html}
+use Rattle.mrp_page.specs.Page.{glance_html, head_html, items_of, page_html, page_of, rest_html, scene_in, shown_items, top_html, shown_html}
 use Rattle.mrp_page.specs.AtRisk.{RisksView}
 use Rattle.mrp_page.specs.Promises.{risks_html}
 use Rattle.mrp_page.specs.Refused.{refused_section}
@@ -33,8 +34,10 @@ use Rattle.mrp_page.proofs.made.Centres.{LoadKnown, centres}
 use Rattle.mrp_page.proofs.made.Facts.{Made, TablesKnown, Vocabulary, WorksKnown}
 use Rattle.mrp_page.proofs.made.Glance.{at-risk, glance, item-text}
 use Rattle.mrp_page.proofs.made.Items.{AllKnown, IndexKnown, history-of, index, items, more-items}
-use Rattle.mrp_page.proofs.made.Own.{laid-page_head, laid-page_items, laid-page_top, of-cancel, of-earlier, of-late, of-later, of-other, of-release, own-page_end, own-style}
-use Rattle.mrp_page.proofs.made.Pieces.{Counted, date-known, join, knows, mark, nought, row, table-row}
+use Rattle.mrp_page.proofs.made.Laid.{laid-page_head, laid-page_items, laid-page_top, laid-page_shown}
+use Rattle.mrp_page.proofs.made.OfKind.{of-cancel, of-earlier, of-late, of-later, of-other, of-release}
+use Rattle.mrp_page.proofs.made.Plain.{own-page_end, own-style, own-head_end}
+use Rattle.mrp_page.proofs.made.Pieces.{Counted, date-known, join, knows, mark, nought, row, table-row, counted, either, none, nothing}
 use Rattle.mrp_page.proofs.made.Records.{a-start, top-known}
 use Rattle.mrp_page.proofs.made.Rows.{all-in, all-shown, contains-flat}
 use Rattle.mrp_page.proofs.made.Scene.{SceneKnown, unkept}
@@ -78,7 +81,7 @@ module _ (v : Vocabulary) where
   later-counts : (notes : Noted) → All (Contains (own_counts notes)) (summary_counts notes.history (rows_in s.Messages notes.report) (rows_in s.Loads notes.report))
   later-counts notes = λ k d within.
       let counts : List (List ℕ) = summary_counts notes.history (rows_in s.Messages notes.report) (rows_in s.Loads notes.report) in
-      let first : List (List ℕ) = take 10 (own_counts notes) in
+      let first : List (List ℕ) = take 11 (own_counts notes) in
       Contains-append_right first counts (get_or counts k d) (All-contains_itself counts k d within)
 
   counted-list : (notes : Noted) → All v.Known (count_texts notes) → (rs : List RowView) → Contains (row_lists notes) rs → Counted v rs
@@ -138,12 +141,22 @@ module _ (v : Vocabulary) where
       (Contains-append_right (flat_map (open_texts (own_scene notes)) ms) (flat_map (index_texts ms) rs ++ (outs_texts notes ++ overloaded_texts notes)) t
       (Contains-append_left (flat_map (index_texts ms) rs) (outs_texts notes ++ overloaded_texts notes) t (contains-flat (index_texts ms) rs r t has.0 has.1 has.2 (1, omega arith, refl))))
 
+  a-top : (title : List ℕ) (tables : Option Facts) (report : List RowView) (items shown : ℕ) → Made v (head_html tables (heading title report items)) → v.Known (decimal shown) → Made v (top_html title tables report items shown)
+  unfolding top_html shown_html
+  a-top title tables report items shown of-head known =
+      let head : List ℕ = head_html tables (heading title report items) in
+      let more : List ℕ = shown_html items shown in
+      join v head (more ++ head_end) of-head
+      (join v more head_end
+      (either v (nat_le items shown) [] (row_html page_shown (count_row shown [] [])) (none v) (row v page_shown (count_row shown [] []) laid-page_shown (counted v shown [] [] known (nothing v) (nothing v))))
+      (mark v head_end own-head_end))
+
   pub page : (title : List ℕ) (tables : Option Facts) (notes : Noted) (risks : RisksView) → TablesKnown v.Known tables → WorksKnown v.Known (work_in (scene_in tables notes) (rows_in s.Loads notes.report)) (rows_in s.Loads notes.report) → v.Known title → All (λ (r : RowView). (column : ℕ) → v.Known (cell_at r column)) notes.history → All (λ (r : RowView). (column : ℕ) → v.Known (cell_at r column)) notes.report → All v.Known (count_texts notes) → All v.Known (risk_texts risks)
       → All (λ (r : RowView). v.Shown (cell_at r 0)) (shown_items (item_lists notes.report)) → All (λ (r : RowView). v.Kept (cell_at r 0)) notes.history
       → ((name : List ℕ) → has_item (shown_items (item_lists notes.report)) name ≡ true → All (λ (r : RowView). v.Ordered (cell_at r 1) name) (rows_named name (rows_in s.Orders notes.report))) → Made v (page_html title tables notes risks)
-  unfolding page_html page_of top_html rest_html items_of
+  unfolding page_html page_of rest_html items_of
   page title tables notes risks of of-works known entries all counts risk-texts led kept leads =
-      let count : (k : ℕ) → k < 19 → v.Known (get_or (own_counts notes) k []) = λ k within. All-contains v.Known (count_texts notes) (get_or (own_counts notes) k []) counts (Contains-append_left (own_counts notes) (listed_texts notes) (get_or (own_counts notes) k []) (All-contains_itself (own_counts notes) k [] (omega (arith, within)))) in
+      let count : (k : ℕ) → k < 20 → v.Known (get_or (own_counts notes) k []) = λ k within. All-contains v.Known (count_texts notes) (get_or (own_counts notes) k []) counts (Contains-append_left (own_counts notes) (listed_texts notes) (get_or (own_counts notes) k []) (All-contains_itself (own_counts notes) k [] (omega (arith, within)))) in
       let of-list : (rs : List RowView) → Contains (row_lists notes) rs → Counted v rs = λ rs has. counted-list notes counts rs has in
       let lists : ItemLists = item_lists notes.report in
       let of-lists : AllKnown v lists = all-lists notes.report all in
@@ -153,7 +166,7 @@ module _ (v : Vocabulary) where
       let seen : SceneKnown v scene = record { led = led; of-shown = of-shown; of-orders = of-lists.orders; of-pegs = of-lists.pegs; of-entries = entries; kept = kept; leads-to = leads; of-tables = of } in
       let loaded : List RowView = rows_in s.Loads notes.report in
       let of-loaded : All (LoadKnown v) loaded = loads-known notes counts (all-in (λ (r : RowView). (column : ℕ) → v.Known (cell_at r column)) s.Loads notes.report all) in
-      let top : List ℕ = head_html tables (heading title notes.report notes.counts.items) in
+      let top : List ℕ = top_html title tables notes.report notes.counts.items (length shown) in
       let sums : List ℕ = summary_html notes.history lists.messages loaded risks in
       let of-sums : All v.Known (summary_counts notes.history lists.messages loaded) = λ k d within. All-contains v.Known (count_texts notes) (get_or (summary_counts notes.history lists.messages loaded) k d) counts (Contains-append_left (own_counts notes) (listed_texts notes) (get_or (summary_counts notes.history lists.messages loaded) k d) (later-counts notes k d within)) in
       let calls : List ℕ = refused_section scene notes.counts.history in
@@ -167,7 +180,7 @@ module _ (v : Vocabulary) where
       let item-parts : List ℕ = indexed ++ (each-item ++ more_items (unshown lists shown notes.counts) shown) in
       let past : List ℕ = history_html tables notes.history notes.counts.history in
       join v top (sums ++ (at-once ++ (calls ++ (promises ++ (todos ++ (centred ++ (item-parts ++ (past ++ page_end))))))))
-      (page-head tables of (heading title notes.report notes.counts.items) (headed title notes.report notes.counts.items known (count 8 (omega arith)) all))
+      (a-top title tables notes.report notes.counts.items (length shown) (page-head tables of (heading title notes.report notes.counts.items) (headed title notes.report notes.counts.items known (count 8 (omega arith)) all)) (count 10 (omega arith)))
       (join v sums (at-once ++ (calls ++ (promises ++ (todos ++ (centred ++ (item-parts ++ (past ++ page_end)))))))
       (summed v notes.history lists.messages loaded risks of-sums (risk-texts 0 [] (omega arith)))
       (join v at-once (calls ++ (promises ++ (todos ++ (centred ++ (item-parts ++ (past ++ page_end)))))) (glance v tables notes seen of-lists.plan of-loaded counts)

@@ -25,7 +25,9 @@ use Rattle.mrp_page.specs.declared.limits.TheConstants.{MOST_LINES, SOME_ROWS}
 use Rattle.mrp_day.specs.declared.section.Section.{Section}
 use Rattle.mrp_day.specs.declared.section.Section.TheVariants as s
 use Rattle.mrp_page.proofs.made.Facts.{Made, TablesKnown, Vocabulary}
-use Rattle.mrp_page.proofs.made.Own.{IsOwn, laid-more, laid-rest_open, own-cell, own-cell-end, own-date-back, own-date-front, own-empty, own-parts, own-rest_end, own-row-end, own-said-back, own-said-front, own-table-parts, own-zero}
+use Rattle.mrp_page.proofs.made.Laid.{laid-more, laid-rest_open}
+use Rattle.mrp_page.proofs.made.Own.{IsOwn, own-parts, own-table-parts}
+use Rattle.mrp_page.proofs.made.Plain.{own-cell, own-cell-end, own-date-back, own-date-front, own-empty, own-rest_end, own-row-end, own-said-back, own-said-front, own-zero}
 use Rattle.mrp_page.proofs.made.Rows.{named-item}
 
 module _ (v : Vocabulary) where

@@ -24,7 +24,8 @@ use Rattle.mrp_page.specs.Template.{row_html}
 use Rattle.mrp_page.specs.declared.limits.TheConstants.{TABLE_WEEKS}
 use Rattle.mrp_day.specs.declared.section.Section.TheVariants as s
 use Rattle.mrp_page.proofs.made.Facts.{Made, TablesKnown, Vocabulary}
-use Rattle.mrp_page.proofs.made.Own.{laid-balance_chart, laid-balance_scale, laid-facts_end, laid-facts_open, laid-facts_steps, laid-point, laid-record_head, laid-safety_line, laid-safety_scale, laid-week, own-available_label, own-balance_label, own-booked_label, own-date_end, own-date_open, own-empty, own-firm_label, own-grid_end, own-gross_label, own-later_open, own-line_open, own-no_record, own-none, own-planned_label, own-points_end, own-rest_end, own-scheduled_label, own-start_end, own-start_open, own-starts_label, own-week_end, own-weeks_end}
+use Rattle.mrp_page.proofs.made.Laid.{laid-balance_chart, laid-balance_scale, laid-facts_end, laid-facts_open, laid-facts_steps, laid-point, laid-record_head, laid-safety_line, laid-safety_scale, laid-week}
+use Rattle.mrp_page.proofs.made.Plain.{own-available_label, own-balance_label, own-booked_label, own-date_end, own-date_open, own-empty, own-firm_label, own-grid_end, own-gross_label, own-later_open, own-line_open, own-no_record, own-none, own-planned_label, own-points_end, own-rest_end, own-scheduled_label, own-start_end, own-start_open, own-starts_label, own-week_end, own-weeks_end}
 use Rattle.mrp_page.proofs.made.Pieces.{a-number, amounts, date-known, each, either, join, knows, mark, measure, none, row, table, table-row, text, unit}
 
 module _ (v : Vocabulary) where

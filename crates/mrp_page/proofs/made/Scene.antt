@@ -8,8 +8,8 @@ use Rattle.mrp_page.specs.Draw.{has_item, has_none, item_name_html, more_html}
 use Rattle.mrp_page.specs.Folded.{folded_html}
 use Rattle.mrp_page.specs.Known.{IsPieceOf, small_words}
 use Rattle.mrp_page.specs.Laws.{Order}
-use Rattle.mrp_page.specs.layout.Lists.{link_end, section_end}
-use Rattle.mrp_page.specs.layout.Refused.{none_refused, refused_answer, refused_asked, refused_desk, refused_end, refused_open, refused_row}
+use Rattle.mrp_page.specs.layout.Lists.{link_end, row_open, section_end}
+use Rattle.mrp_page.specs.layout.Refused.{none_refused, refused_answer, refused_asked, refused_desk, refused_end, refused_open}
 use Rattle.mrp_page.specs.Orders.{is_numbered, is_order, linked_html, numbered, order_link, order_words, ordered, passing, place_of}
 use Rattle.mrp_page.specs.Refused.{answer_html, asked_of, call_html, caller_html, entry_name_html, is_booking, refusals, refused_back, refused_lines, refused_listing, refused_or_none, refused_rows, refused_section}
 use Rattle.mrp_page.specs.Row.{RowView, cell_at}
@@ -19,7 +19,8 @@ use Rattle.mrp_page.specs.Template.{dated_html, has_word, row_html}
 use Rattle.mrp_page.specs.declared.limits.TheConstants.{FEW_ROWS}
 use Rattle.mrp_page.specs.Work.{WorkView}
 use Rattle.mrp_page.proofs.made.Facts.{Made, TablesKnown, Vocabulary}
-use Rattle.mrp_page.proofs.made.Own.{laid-refused_answer, laid-refused_asked, laid-refused_desk, own-link_end, own-none_refused, own-refused_end, own-refused_front, own-refused_open, own-refused_row, own-section_end, own-table_end}
+use Rattle.mrp_page.proofs.made.Laid.{laid-refused_answer, laid-refused_asked, laid-refused_desk}
+use Rattle.mrp_page.proofs.made.Plain.{own-link_end, own-none_refused, own-refused_end, own-refused_front, own-refused_open, own-row_open, own-section_end, own-table_end}
 use Rattle.mrp_page.proofs.made.Pieces.{dated-row, either, entry-name, folded, further, item-name, join, mark, row, small}
 use Rattle.mrp_page.proofs.made.Rows.{all-by-word, all-named, at-place, found-or, numbered-name, ordered-name}
 
@@ -53,7 +54,7 @@ module _ (v : Vocabulary) where
       let pieces : List ℕ = dated_html scene.tables refused_asked of in
       let desk : List ℕ = row_html refused_desk r in
       let own-entry : List ℕ = entry_name_html scene.history (cell_at r 0) in
-      join v refused_row (name ++ ((answer ++ named) ++ (pieces ++ (desk ++ (own-entry ++ refused_end))))) (mark v refused_row own-refused_row)
+      join v row_open (name ++ ((answer ++ named) ++ (pieces ++ (desk ++ (own-entry ++ refused_end))))) (mark v row_open own-row_open)
       (join v name ((answer ++ named) ++ (pieces ++ (desk ++ (own-entry ++ refused_end)))) (item-name v scene.shown (cell_at of 3) seen.led (of-known 3))
       (join v (answer ++ named) (pieces ++ (desk ++ (own-entry ++ refused_end))) (join v answer named (row v refused_answer r laid-refused_answer known) (entry-name v scene.history (cell_at r 6) seen.kept (known 6)))
       (join v pieces (desk ++ (own-entry ++ refused_end)) (dated-row v scene.tables seen.of-tables refused_asked of laid-refused_asked of-known)

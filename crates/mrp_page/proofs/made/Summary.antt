@@ -11,7 +11,8 @@ use Rattle.mrp_page.specs.Summary.{calls_tiles, centre_count, centres_tile, coun
 use Rattle.mrp_page.specs.Template.{row_html}
 use Rattle.mrp_day.specs.declared.section.Section.TheVariants as s
 use Rattle.mrp_page.proofs.made.Facts.{Made, Vocabulary}
-use Rattle.mrp_page.proofs.made.Own.{laid-centre_tile, laid-summary_tile, own-main_open, own-summary_open}
+use Rattle.mrp_page.proofs.made.Laid.{laid-centre_tile, laid-summary_tile}
+use Rattle.mrp_page.proofs.made.Plain.{own-main_open, own-summary_open}
 use Rattle.mrp_page.proofs.made.Pieces.{either, join, knows, mark, none, nothing, row, small}
 
 module _ (v : Vocabulary) where

@@ -17,9 +17,9 @@ use Rattle.mrp_page.specs.Sorted.{sorted_by}
 use Rattle.mrp_page.proofs.ByKey.{sorted-permutes}
 use Rattle.mrp_page.specs.Kinds.{Kind, cancel, earlier, falling_rank, in_order, kind_html, kind_listing, kind_part, kinds_html, late, later, messages_of, note_html, open_count, open_html, order_html, order_of, other, other_messages, other_part, release, state_of, task_line, todo_back, todo_html, value_rank, pegged_html, received_html}
 use Rattle.mrp_page.specs.Known.{layouts, small_words}
-use Rattle.mrp_page.specs.layout.Lists.{rest_end, section_end}
+use Rattle.mrp_page.specs.layout.Lists.{rest_end, row_open, section_end}
 use Rattle.mrp_page.specs.layout.Said.{no_message, said_back, said_front, said_other_back, said_other_front, said_pieces, said_receipt, said_start, said_week}
-use Rattle.mrp_page.specs.layout.Todo.{nothing_to_do, open_pieces, open_receipt, order_unknown, task_middle, task_row, task_supply, todo_note, todo_open}
+use Rattle.mrp_page.specs.layout.Todo.{nothing_to_do, open_pieces, open_receipt, order_unknown, task_middle, task_supply, todo_note, todo_open}
 use Rattle.mrp_page.specs.Orders.{is_order, linked_html, passing, place_of}
 use Rattle.mrp_page.specs.Row.{RowView, cell_at, same_text}
 use Rattle.mrp_page.specs.Rows.{rows_named}
@@ -31,7 +31,9 @@ use Rattle.mrp_page.specs.declared.limits.TheConstants.{FEW_ROWS, SOME_ROWS}
 use Rattle.mrp_page.specs.declared.kinds.Sorting.TheVariants as sorts
 use Rattle.mrp_day.specs.declared.section.Section.TheVariants as s
 use Rattle.mrp_page.proofs.made.Facts.{Made, TablesKnown, Vocabulary}
-use Rattle.mrp_page.proofs.made.Own.{OfKind, laid-open_pieces, laid-open_receipt, laid-said_back, laid-said_front, laid-said_other_back, laid-said_other_front, laid-said_pieces, laid-said_receipt, laid-said_start, laid-said_week, laid-task_supply, of-cancel, of-earlier, of-late, of-later, of-other, of-release, own-cell-end, own-no_message, own-nothing_to_do, own-order_unknown, own-rest_end, own-said_close, own-said_open, own-section_end, own-table_end, own-task_middle, own-task_row, own-todo_note, own-todo_open}
+use Rattle.mrp_page.proofs.made.Laid.{laid-open_pieces, laid-open_receipt, laid-said_back, laid-said_front, laid-said_other_back, laid-said_other_front, laid-said_pieces, laid-said_receipt, laid-said_start, laid-said_week, laid-task_supply}
+use Rattle.mrp_page.proofs.made.OfKind.{OfKind, of-cancel, of-earlier, of-late, of-later, of-other, of-release}
+use Rattle.mrp_page.proofs.made.Plain.{own-cell-end, own-no_message, own-nothing_to_do, own-order_unknown, own-rest_end, own-list_end, own-said_open, own-section_end, own-table_end, own-task_middle, own-row_open, own-todo_note, own-todo_open}
 use Rattle.mrp_page.proofs.made.Pieces.{Counted, capped, counted, dated-row, either, folded, further, item-name, join, knows, mark, none, nothing, row, small, table-dated}
 use Rattle.mrp_page.proofs.made.Rows.{all-named}
 use Rattle.mrp_page.proofs.made.Scene.{SceneKnown, linked-order, order-known}
@@ -79,7 +81,7 @@ module _ (v : Vocabulary) where
       let supply : List ℕ = linked_html scene (order_of scene r) says in
       let of-order : List ℕ = order_html kind scene r (order_of scene r) in
       let value : List ℕ = dated_html scene.tables kind.value r in
-      join v task_row (name ++ (task_middle ++ (supply ++ (codes "</td>" ++ (of-order ++ value))))) (mark v task_row own-task_row)
+      join v row_open (name ++ (task_middle ++ (supply ++ (codes "</td>" ++ (of-order ++ value))))) (mark v row_open own-row_open)
       (join v name (task_middle ++ (supply ++ (codes "</td>" ++ (of-order ++ value)))) (item-name v scene.shown (cell_at r 0) seen.led (known.cells-in 0))
       (join v task_middle (supply ++ (codes "</td>" ++ (of-order ++ value))) (mark v task_middle own-task_middle)
       (join v supply (codes "</td>" ++ (of-order ++ value)) (linked-order v scene seen (cell_at r 0) (cell_at r 1) (cell_at r 2) says (row v task_supply r laid-task_supply known.cells-in))
@@ -157,7 +159,7 @@ module _ (v : Vocabulary) where
   unfolding said_or_none
   said-messages scene seen ms all count =
       either v (has_none ms) no_message (folded_html (said_listing scene) FEW_ROWS ms) (mark v no_message own-no_message)
-      (folded v (MessageKnown scene) (said_listing scene) FEW_ROWS ms own-said_open own-said_close (λ r known. sentence scene seen r known) all count)
+      (folded v (MessageKnown scene) (said_listing scene) FEW_ROWS ms own-said_open own-list_end (λ r known. sentence scene seen r known) all count)
 
   pub said-named : (scene : SceneView) → SceneKnown v scene → (rows : ItemLists) (r : RowView) → All (MessageKnown scene) rows.messages → v.Known (decimal (length (drop FEW_ROWS (messages_at rows r)))) → Made v (item_messages scene rows r)
   unfolding item_messages

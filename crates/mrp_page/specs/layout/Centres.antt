@@ -112,29 +112,6 @@ over_open =
 unfoldable pub over_front : List ℕ
 over_front = codes "<ul class=over>\n"
 
--- what the list of these ends with
-unfoldable pub over_back : List ℕ
-over_back = codes "</ul>\n"
-
--- a week of a work centre that is over its capacity
-unfoldable pub over_line : List Drawn
-over_line =
-    Mark (codes "<li><b>") ∷
-    Text 2 ∷
-    Text 3 ∷
-    Mark (codes "</b> <a href=\"#c-") ∷
-    Text 0 ∷
-    Mark (codes "\">") ∷
-    Text 0 ∷
-    Mark (codes "</a>, week ") ∷
-    Text 1 ∷
-    Date 1 ∷
-    Mark (codes ": <span title=\"") ∷
-    Text 11 ∷
-    Mark (codes "\">") ∷
-    Text 9 ∷
-    Mark (codes "</span> min over</li>\n") ∷ []
-
 -- what the picture of loads ends with: the line of 100 %
 unfoldable pub load_end : List Drawn
 load_end =
@@ -152,3 +129,22 @@ load_chart =
     Mark (codes " 226\" preserveAspectRatio=\"none\"><title>Load of ") ∷
     Text 0 ∷
     Mark (codes " as a share of its capacity, week by week</title><g transform=\"translate(-.4) scale(1 -1)\"><path class=load d=\"") ∷ []
+
+-- what is said of a week of a work centre that is over its capacity
+unfoldable pub over_words : List Drawn
+over_words =
+    Mark (codes "<b>") ∷
+    Text 2 ∷
+    Text 3 ∷
+    Mark (codes "</b> <a href=\"#c-") ∷
+    Text 0 ∷
+    Mark (codes "\">") ∷
+    Text 0 ∷
+    Mark (codes "</a>, week ") ∷
+    Text 1 ∷
+    Date 1 ∷
+    Mark (codes ": <span title=\"") ∷
+    Text 11 ∷
+    Mark (codes "\">") ∷
+    Text 9 ∷
+    Mark (codes "</span> min over") ∷ []

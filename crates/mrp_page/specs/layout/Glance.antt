@@ -17,7 +17,7 @@ none_out = codes "<p>No item: stock and the orders that are placed are enough.</
 -- what stands above the items that run out first: how many there are
 unfoldable pub outs_note : List Drawn
 outs_note =
-    Mark (codes "<p class=note>The first week in which stock and the orders that are placed are not enough, what is left then without planned orders, and how late the first of these is. Items: ") ∷
+    Mark (codes "<p class=note>The first week in which stock and the orders that are placed are not enough, what is left then without planned orders, and how late the first of these is. Items that run out within these weeks: ") ∷
     Text 0 ∷
     Mark (codes ".</p>\n") ∷ []
 
@@ -72,7 +72,7 @@ overloaded_line =
     Mark (codes "</b> in week ") ∷
     Text 5 ∷
     Date 5 ∷
-    Mark (codes "; ") ∷
+    Mark (codes "; <span class=n>") ∷
     Text 6 ∷
     Text 7 ∷
-    Mark (codes " over all weeks</p>\n") ∷ []
+    Mark (codes "</span> over all weeks</p>\n") ∷ []

@@ -77,8 +77,18 @@ page_items =
     Mark (codes "; items: <b>") ∷
     Text 4 ∷
     Mark (codes "</b>") ∷
-    Where 4 (codes "0") (codes " (the plan has none, or none that was asked for)") ∷
-    Mark (codes "</p>\n") ∷ []
+    Where 4 (codes "0") (codes " (the plan has none, or none that was asked for)") ∷ []
+
+-- how many items are on the page
+unfoldable pub page_shown : List Drawn
+page_shown =
+    Mark (codes ", on this page: <b>") ∷
+    Text 0 ∷
+    Mark (codes "</b>") ∷ []
+
+-- what the first lines of a page end with
+unfoldable pub head_end : List ℕ
+head_end = codes "</p>\n"
 
 -- what comes between the head of a page and its parts: links to these
 unfoldable pub main_open : List ℕ

@@ -23,10 +23,6 @@ items_open = codes "<section id=items>\n<h2>Items</h2>\n<ul class=index>\n"
 unfoldable pub items_end : List ℕ
 items_end = codes "</ul>\n</section>\n"
 
--- what an item of the index begins with
-unfoldable pub index_open : List ℕ
-index_open = codes "<li>"
-
 -- how many messages an item has
 unfoldable pub index_count : List Drawn
 index_count =
@@ -34,25 +30,17 @@ index_count =
     Text 0 ∷
     Mark (codes "</small>") ∷ []
 
--- what an item of the index ends with
-unfoldable pub index_end : List ℕ
-index_end = codes "</li>\n"
-
 -- what the orders and pegs of an item are folded behind
 unfoldable pub lists_open : List ℕ
 lists_open = codes "<details><summary>Orders and pegs</summary>\n"
 
 -- what the orders of an item begin with
 unfoldable pub orders_open : List ℕ
-orders_open = codes "<div class=scroll tabindex=0 role=region aria-label=Orders><table class=list>\n<caption><span>Firm and planned orders</span></caption>\n<thead><tr><th class=t scope=col>Order</th><th class=t scope=col>Kind</th><th scope=col>Due week</th><th scope=col>Quantity</th><th scope=col>Starts</th><th scope=col>Release week</th><th scope=col>Weeks late (shop days from version 2 on)</th></tr></thead>\n<tbody>"
+orders_open = codes "<div class=scroll tabindex=0 role=region aria-label=Orders><table class=list>\n<caption><span>Firm and planned orders</span></caption>\n<thead><tr><th class=t scope=col>Order</th><th class=t scope=col>Kind</th><th scope=col>Due week</th><th scope=col>Quantity</th><th scope=col>Pieces to start</th><th scope=col>Release week</th><th scope=col>Weeks late (shop days from version 2 on)</th></tr></thead>\n<tbody>"
 
 -- what the pegs of an item begin with
 unfoldable pub pegs_open : List ℕ
 pegs_open = codes "<div class=scroll tabindex=0 role=region aria-label=\"Where it goes\"><table class=list>\n<caption><span>Where it goes: which supply serves which requirement</span></caption>\n<thead><tr><th class=t scope=col>Supply</th><th scope=col>Pieces</th><th class=t scope=col>Requirement</th><th scope=col>Week</th></tr></thead>\n<tbody>"
-
--- what a peg begins with, before its supply
-unfoldable pub peg_front : List ℕ
-peg_front = codes "<tr><th scope=row>"
 
 -- the supply of a peg
 unfoldable pub peg_supply : List Drawn
@@ -103,13 +91,6 @@ wait_order =
     Mark (codes "order ") ∷
     Text 3 ∷ []
 
--- the pieces that it waits for
-unfoldable pub wait_middle : List Drawn
-wait_middle =
-    Mark (codes "</th>") ∷
-    Number 8 ∷
-    Mark (codes "<td class=t>") ∷ []
-
 -- what comes between a component and its supply
 unfoldable pub wait_supply : List ℕ
 wait_supply = codes "</td><td class=t>"
@@ -158,7 +139,7 @@ facts_end =
     Text 7 ∷
     Mark (codes ".") ∷
     Text 8 ∷
-    Mark (codes " %; safety stock: ") ∷
+    Mark (codes "&nbsp;%; safety stock: ") ∷
     Text 9 ∷
     Mark (codes "; on hand: ") ∷
     Text 10 ∷

@@ -53,3 +53,19 @@ title_open = codes "<td title=\""
 -- what it ends with
 unfoldable pub title_end : List ℕ
 title_end = codes "\">"
+
+-- what a row of a list begins with, before its head
+unfoldable pub row_open : List ℕ
+row_open = codes "<tr><th scope=row>"
+
+-- what a list of sentences ends with
+unfoldable pub list_end : List ℕ
+list_end = codes "</ul>\n"
+
+-- what a line of such a list begins with
+unfoldable pub bullet_open : List ℕ
+bullet_open = codes "<li>"
+
+-- what it ends with
+unfoldable pub bullet_end : List ℕ
+bullet_end = codes "</li>\n"

@@ -18,10 +18,6 @@ none_refused = codes "<p>None: each booking was promised, and each cancellation 
 unfoldable pub refused_front : List ℕ
 refused_front = codes "<table class=\"list even\" aria-label=\"Not promised\"><thead><tr><th class=t scope=col>Item</th><th class=t scope=col>Answer</th><th scope=col>Pieces</th><th scope=col>Week</th><th scope=col>Desk</th><th scope=col>Entry</th></tr></thead>\n<tbody>"
 
--- what a call begins with, before its item
-unfoldable pub refused_row : List ℕ
-refused_row = codes "<tr><th scope=row>"
-
 -- what a call ends with
 unfoldable pub refused_end : List ℕ
 refused_end = codes "</td></tr>\n"

@@ -40,10 +40,6 @@ said_other_front =
 unfoldable pub said_open : List ℕ
 said_open = codes "<ul class=said>\n"
 
--- what they end with
-unfoldable pub said_close : List ℕ
-said_close = codes "</ul>\n"
-
 -- what stands at an item without messages
 unfoldable pub no_message : List ℕ
 no_message = codes "<p class=note>No message on this page.</p>\n"
@@ -62,9 +58,9 @@ said_pieces = Mark (codes ", ") ∷ Text 0 ∷ Text 1 ∷ []
 -- the start and the due week of an order to be released
 unfoldable pub said_start : List Drawn
 said_start =
-    Mark (codes ", start ") ∷
+    Mark (codes ", ") ∷
     Text 5 ∷
-    Mark (codes ", due week ") ∷
+    Mark (codes " to start, due week ") ∷
     Text 3 ∷
     Date 3 ∷ []
 

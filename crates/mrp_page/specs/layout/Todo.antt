@@ -10,21 +10,17 @@ nothing_to_do = codes "<p>Nothing to do: the plan has no message.</p>\n"
 unfoldable pub todo_note : List ℕ
 todo_note = codes "<p class=note>Each message speaks of the plan as it stands: change what can be changed, and plan again.</p>\n"
 
--- what a message begins with, before its item
-unfoldable pub task_row : List ℕ
-task_row = codes "<tr><th scope=row>"
-
 -- what stands in place of the cells of an order that is not kept
 unfoldable pub order_unknown : List ℕ
 order_unknown = codes "<td></td><td></td><td></td>"
 
 -- what the table of a kind of messages begins with
 unfoldable pub late_front : List ℕ
-late_front = codes "<table class=\"list even\" aria-label=\"Past due\"><thead><tr><th class=t scope=col>Item</th><th class=t scope=col>Order</th><th scope=col>Pieces</th><th scope=col>Start</th><th scope=col>Due week</th><th scope=col>Weeks late</th></tr></thead>\n<tbody>"
+late_front = codes "<table class=\"list even\" aria-label=\"Past due\"><thead><tr><th class=t scope=col>Item</th><th class=t scope=col>Order</th><th scope=col>Pieces</th><th scope=col>Pieces to start</th><th scope=col>Due week</th><th scope=col>Weeks late</th></tr></thead>\n<tbody>"
 
 -- what the table of a kind of messages begins with
 unfoldable pub release_front : List ℕ
-release_front = codes "<table class=\"list even\" aria-label=\"Release\"><thead><tr><th class=t scope=col>Item</th><th class=t scope=col>Order</th><th scope=col>Pieces</th><th scope=col>Start</th><th scope=col>Due week</th><td></td></tr></thead>\n<tbody>"
+release_front = codes "<table class=\"list even\" aria-label=\"Release\"><thead><tr><th class=t scope=col>Item</th><th class=t scope=col>Order</th><th scope=col>Pieces</th><th scope=col>Pieces to start</th><th scope=col>Due week</th><td></td></tr></thead>\n<tbody>"
 
 -- what the table of a kind of messages begins with
 unfoldable pub in_front : List ℕ

@@ -1,37 +1,10 @@
 -- The parts of a page: the operations behind an overload.
 use Rattle.std.specs.Prelude.{ℕ, List, [], ◌∷◌, codes}
-use Rattle.mrp_page.specs.Template.{Date, Drawn, Mark, Number, Text, Week}
+use Rattle.mrp_page.specs.Template.{Drawn, Mark, Number, Text, Week}
 
 -- what stands above the overloads if the tables are given
 unfoldable pub work_note : List ℕ
 work_note = codes "<p class=note>Behind each of the first 100 stand the operations that load it, those first that take the most time.</p>\n"
-
--- what an overload begins with that has its operations behind it
-unfoldable pub work_open : List Drawn
-work_open =
-    Mark (codes "<li><details><summary><b>") ∷
-    Text 2 ∷
-    Text 3 ∷
-    Mark (codes "</b> <a href=\"#c-") ∷
-    Text 0 ∷
-    Mark (codes "\">") ∷
-    Text 0 ∷
-    Mark (codes "</a>, week ") ∷
-    Text 1 ∷
-    Date 1 ∷
-    Mark (codes ": <span title=\"") ∷
-    Text 11 ∷
-    Mark (codes "\">") ∷
-    Text 9 ∷
-    Mark (codes "</span> min over; ") ∷ []
-
--- how many operations load it
-unfoldable pub work_count : List Drawn
-work_count =
-    Text 0 ∷
-    Mark (codes " ") ∷
-    Text 1 ∷
-    Mark (codes "</summary>\n") ∷ []
 
 -- what the table of these operations begins with
 unfoldable pub work_head : List Drawn
@@ -44,7 +17,7 @@ work_head =
     Text 0 ∷
     Mark (codes " in week ") ∷
     Text 1 ∷
-    Mark (codes "\"><thead><tr><th class=t scope=col>Order</th><th scope=col>Operation</th><th scope=col>Minutes</th><th scope=col>Share of capacity</th><th scope=col>Start</th><th scope=col>Due week</th><th scope=col>Weeks late</th></tr></thead>\n<tbody>") ∷ []
+    Mark (codes "\"><thead><tr><th class=t scope=col>Order</th><th scope=col>Operation</th><th scope=col>Minutes</th><th scope=col>Share of capacity</th><th scope=col>Pieces to start</th><th scope=col>Due week</th><th scope=col>Weeks late</th></tr></thead>\n<tbody>") ∷ []
 
 -- the order of an operation
 unfoldable pub work_name : List Drawn
@@ -92,10 +65,6 @@ work_other = codes "<tr><th scope=row>the rest of this load</th><td></td>"
 unfoldable pub work_blank : List ℕ
 work_blank = codes "<td></td><td></td><td class=z></td></tr>\n"
 
--- what the table of operations ends with
-unfoldable pub work_table_end : List ℕ
-work_table_end = codes "</tbody></table></div>\n"
-
 -- what stands in its place if the operations take more time than the load has
 unfoldable pub work_unknown : List ℕ
 work_unknown = codes "<p class=note>By the routings of these tables the orders take more time than this load: they are not those of the day.</p>\n"
@@ -103,3 +72,16 @@ work_unknown = codes "<p class=note>By the routings of these tables the orders t
 -- what an overload ends with that has its operations behind it
 unfoldable pub work_end : List ℕ
 work_end = codes "</details></li>\n"
+
+-- what an overload begins with that has its operations behind it
+unfoldable pub work_open : List ℕ
+work_open = codes "<li><details><summary>"
+
+-- how many operations load it
+unfoldable pub work_count : List Drawn
+work_count =
+    Mark (codes "; ") ∷
+    Text 0 ∷
+    Mark (codes " ") ∷
+    Text 1 ∷
+    Mark (codes "</summary>\n") ∷ []

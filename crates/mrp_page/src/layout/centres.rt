@@ -2,7 +2,7 @@
 
 ghost use Rattle.std.specs.Prelude.{◌≡◌, map};
 ghost use Rattle.mrp_page.specs.Template.{drawn_of};
-ghost use Rattle.mrp_page.specs.layout.Centres.{above_bar, above_end, capacity_label, centre_head, centre_open, centres_open, cut_bar, hot_bar, hot_end, load_chart, load_end, load_label, low_bar, low_end, none_over, over_back, over_front, over_label, over_line, over_open, share_cell, share_label};
+ghost use Rattle.mrp_page.specs.layout.Centres.{above_bar, above_end, capacity_label, centre_head, centre_open, centres_open, cut_bar, hot_bar, hot_end, load_chart, load_end, load_label, low_bar, low_end, none_over, over_front, over_label, over_open, over_words, share_cell, share_label};
 
 use crate::template::Part;
 
@@ -200,38 +200,6 @@ pub(crate) fn over_front() -> &'static [u8]
     b"<ul class=over>\n"
 }
 
-// What the list of these ends with.
-#[tactic(auto, unfolding(crate::specs::layout::Centres::over_back))]
-pub(crate) fn over_back() -> &'static [u8]
-    ensures { result.now ≡ over_back }
-{
-    b"</ul>\n"
-}
-
-// A week of a work centre that is over its capacity.
-#[tactic(auto, unfolding(crate::specs::layout::Centres::over_line))]
-pub(crate) fn over_line() -> &'static [Part]
-    ensures { map drawn_of result.now ≡ over_line }
-{
-    &[
-        Part::Markup(b"<li><b>"),
-        Part::Cell(2),
-        Part::Cell(3),
-        Part::Markup(b"</b> <a href=\"#c-"),
-        Part::Cell(0),
-        Part::Markup(b"\">"),
-        Part::Cell(0),
-        Part::Markup(b"</a>, week "),
-        Part::Cell(1),
-        Part::Date(1),
-        Part::Markup(b": <span title=\""),
-        Part::Cell(11),
-        Part::Markup(b"\">"),
-        Part::Cell(9),
-        Part::Markup(b"</span> min over</li>\n"),
-    ]
-}
-
 // What the picture of loads ends with: the line of 100 %.
 #[tactic(auto, unfolding(crate::specs::layout::Centres::load_end))]
 pub(crate) fn load_end() -> &'static [Part]
@@ -261,5 +229,29 @@ pub(crate) fn load_chart() -> &'static [Part]
         Part::Markup(
             b" as a share of its capacity, week by week</title><g transform=\"translate(-.4) scale(1 -1)\"><path class=load d=\"",
         ),
+    ]
+}
+
+// What is said of a week of a work centre that is over its capacity.
+#[tactic(auto, unfolding(crate::specs::layout::Centres::over_words))]
+pub(crate) fn over_words() -> &'static [Part]
+    ensures { map drawn_of result.now ≡ over_words }
+{
+    &[
+        Part::Markup(b"<b>"),
+        Part::Cell(2),
+        Part::Cell(3),
+        Part::Markup(b"</b> <a href=\"#c-"),
+        Part::Cell(0),
+        Part::Markup(b"\">"),
+        Part::Cell(0),
+        Part::Markup(b"</a>, week "),
+        Part::Cell(1),
+        Part::Date(1),
+        Part::Markup(b": <span title=\""),
+        Part::Cell(11),
+        Part::Markup(b"\">"),
+        Part::Cell(9),
+        Part::Markup(b"</span> min over"),
     ]
 }

@@ -37,7 +37,7 @@ pub(crate) fn outs_note() -> &'static [Part]
 {
     &[
         Part::Markup(
-            b"<p class=note>The first week in which stock and the orders that are placed are not enough, what is left then without planned orders, and how late the first of these is. Items: ",
+            b"<p class=note>The first week in which stock and the orders that are placed are not enough, what is left then without planned orders, and how late the first of these is. Items that run out within these weeks: ",
         ),
         Part::Cell(0),
         Part::Markup(b".</p>\n"),
@@ -121,9 +121,9 @@ pub(crate) fn overloaded_line() -> &'static [Part]
         Part::Markup(b"</b> in week "),
         Part::Cell(5),
         Part::Date(5),
-        Part::Markup(b"; "),
+        Part::Markup(b"; <span class=n>"),
         Part::Cell(6),
         Part::Cell(7),
-        Part::Markup(b" over all weeks</p>\n"),
+        Part::Markup(b"</span> over all weeks</p>\n"),
     ]
 }

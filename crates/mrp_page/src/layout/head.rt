@@ -2,7 +2,7 @@
 
 ghost use Rattle.std.specs.Prelude.{◌≡◌, map};
 ghost use Rattle.mrp_page.specs.Template.{drawn_of};
-ghost use Rattle.mrp_page.specs.layout.Head.{centre_tile, main_open, page_end, page_head, page_items, page_top, start_end, start_open, style, summary_open, summary_tile};
+ghost use Rattle.mrp_page.specs.layout.Head.{centre_tile, head_end, main_open, page_end, page_head, page_items, page_shown, page_top, start_end, start_open, style, summary_open, summary_tile};
 
 use crate::style::STYLE;
 use crate::template::Part;
@@ -127,8 +127,27 @@ pub(crate) fn page_items() -> &'static [Part]
         Part::Cell(4),
         Part::Markup(b"</b>"),
         Part::If(4, b"0", b" (the plan has none, or none that was asked for)"),
-        Part::Markup(b"</p>\n"),
     ]
+}
+
+// How many items are on the page.
+#[tactic(auto, unfolding(crate::specs::layout::Head::page_shown))]
+pub(crate) fn page_shown() -> &'static [Part]
+    ensures { map drawn_of result.now ≡ page_shown }
+{
+    &[
+        Part::Markup(b", on this page: <b>"),
+        Part::Cell(0),
+        Part::Markup(b"</b>"),
+    ]
+}
+
+// What the first lines of a page end with.
+#[tactic(auto, unfolding(crate::specs::layout::Head::head_end))]
+pub(crate) fn head_end() -> &'static [u8]
+    ensures { result.now ≡ head_end }
+{
+    b"</p>\n"
 }
 
 // What comes between the head of a page and its parts: links to these.

@@ -2,7 +2,7 @@
 
 ghost use Rattle.std.specs.Prelude.{◌≡◌, map};
 ghost use Rattle.mrp_page.specs.Template.{drawn_of};
-ghost use Rattle.mrp_page.specs.layout.Items.{facts_end, facts_open, facts_steps, index_count, index_end, index_open, item_head, items_end, items_open, lists_open, order, order_address, orders_open, peg_back, peg_booking, peg_front, peg_middle, peg_need, peg_parent, peg_supply, pegs_open, wait_end, wait_late, wait_middle, wait_order, wait_supply, waits_open};
+ghost use Rattle.mrp_page.specs.layout.Items.{facts_end, facts_open, facts_steps, index_count, item_head, items_end, items_open, lists_open, order, order_address, orders_open, peg_back, peg_booking, peg_middle, peg_need, peg_parent, peg_supply, pegs_open, wait_end, wait_late, wait_order, wait_supply, waits_open};
 
 use crate::template::Part;
 
@@ -44,14 +44,6 @@ pub(crate) fn items_end() -> &'static [u8]
     b"</ul>\n</section>\n"
 }
 
-// What an item of the index begins with.
-#[tactic(auto, unfolding(crate::specs::layout::Items::index_open))]
-pub(crate) fn index_open() -> &'static [u8]
-    ensures { result.now ≡ index_open }
-{
-    b"<li>"
-}
-
 // How many messages an item has.
 #[tactic(auto, unfolding(crate::specs::layout::Items::index_count))]
 pub(crate) fn index_count() -> &'static [Part]
@@ -62,14 +54,6 @@ pub(crate) fn index_count() -> &'static [Part]
         Part::Cell(0),
         Part::Markup(b"</small>"),
     ]
-}
-
-// What an item of the index ends with.
-#[tactic(auto, unfolding(crate::specs::layout::Items::index_end))]
-pub(crate) fn index_end() -> &'static [u8]
-    ensures { result.now ≡ index_end }
-{
-    b"</li>\n"
 }
 
 // What the orders and pegs of an item are folded behind.
@@ -85,7 +69,7 @@ pub(crate) fn lists_open() -> &'static [u8]
 pub(crate) fn orders_open() -> &'static [u8]
     ensures { result.now ≡ orders_open }
 {
-    b"<div class=scroll tabindex=0 role=region aria-label=Orders><table class=list>\n<caption><span>Firm and planned orders</span></caption>\n<thead><tr><th class=t scope=col>Order</th><th class=t scope=col>Kind</th><th scope=col>Due week</th><th scope=col>Quantity</th><th scope=col>Starts</th><th scope=col>Release week</th><th scope=col>Weeks late (shop days from version 2 on)</th></tr></thead>\n<tbody>"
+    b"<div class=scroll tabindex=0 role=region aria-label=Orders><table class=list>\n<caption><span>Firm and planned orders</span></caption>\n<thead><tr><th class=t scope=col>Order</th><th class=t scope=col>Kind</th><th scope=col>Due week</th><th scope=col>Quantity</th><th scope=col>Pieces to start</th><th scope=col>Release week</th><th scope=col>Weeks late (shop days from version 2 on)</th></tr></thead>\n<tbody>"
 }
 
 // What the pegs of an item begin with.
@@ -94,14 +78,6 @@ pub(crate) fn pegs_open() -> &'static [u8]
     ensures { result.now ≡ pegs_open }
 {
     b"<div class=scroll tabindex=0 role=region aria-label=\"Where it goes\"><table class=list>\n<caption><span>Where it goes: which supply serves which requirement</span></caption>\n<thead><tr><th class=t scope=col>Supply</th><th scope=col>Pieces</th><th class=t scope=col>Requirement</th><th scope=col>Week</th></tr></thead>\n<tbody>"
-}
-
-// What a peg begins with, before its supply.
-#[tactic(auto, unfolding(crate::specs::layout::Items::peg_front))]
-pub(crate) fn peg_front() -> &'static [u8]
-    ensures { result.now ≡ peg_front }
-{
-    b"<tr><th scope=row>"
 }
 
 // The supply of a peg.
@@ -178,18 +154,6 @@ pub(crate) fn wait_order() -> &'static [Part]
     ensures { map drawn_of result.now ≡ wait_order }
 {
     &[Part::Markup(b"order "), Part::Cell(3)]
-}
-
-// The pieces that it waits for.
-#[tactic(auto, unfolding(crate::specs::layout::Items::wait_middle))]
-pub(crate) fn wait_middle() -> &'static [Part]
-    ensures { map drawn_of result.now ≡ wait_middle }
-{
-    &[
-        Part::Markup(b"</th>"),
-        Part::Number(8),
-        Part::Markup(b"<td class=t>"),
-    ]
 }
 
 // What comes between a component and its supply.
@@ -270,7 +234,7 @@ pub(crate) fn facts_end() -> &'static [Part]
         Part::Cell(7),
         Part::Markup(b"."),
         Part::Cell(8),
-        Part::Markup(b" %; safety stock: "),
+        Part::Markup(b"&nbsp;%; safety stock: "),
         Part::Cell(9),
         Part::Markup(b"; on hand: "),
         Part::Cell(10),

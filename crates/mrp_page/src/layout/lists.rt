@@ -2,7 +2,7 @@
 
 ghost use Rattle.std.specs.Prelude.{◌≡◌, map};
 ghost use Rattle.mrp_page.specs.Template.{drawn_of};
-ghost use Rattle.mrp_page.specs.layout.Lists.{grid_end, link_end, link_middle, link_open, more, rest_end, rest_open, section_end, table_end, title_end, title_open};
+ghost use Rattle.mrp_page.specs.layout.Lists.{bullet_end, bullet_open, grid_end, link_end, link_middle, link_open, list_end, more, rest_end, rest_open, row_open, section_end, table_end, title_end, title_open};
 
 use crate::template::Part;
 
@@ -102,4 +102,36 @@ pub(crate) fn title_end() -> &'static [u8]
     ensures { result.now ≡ title_end }
 {
     b"\">"
+}
+
+// What a row of a list begins with, before its head.
+#[tactic(auto, unfolding(crate::specs::layout::Lists::row_open))]
+pub(crate) fn row_open() -> &'static [u8]
+    ensures { result.now ≡ row_open }
+{
+    b"<tr><th scope=row>"
+}
+
+// What a list of sentences ends with.
+#[tactic(auto, unfolding(crate::specs::layout::Lists::list_end))]
+pub(crate) fn list_end() -> &'static [u8]
+    ensures { result.now ≡ list_end }
+{
+    b"</ul>\n"
+}
+
+// What a line of such a list begins with.
+#[tactic(auto, unfolding(crate::specs::layout::Lists::bullet_open))]
+pub(crate) fn bullet_open() -> &'static [u8]
+    ensures { result.now ≡ bullet_open }
+{
+    b"<li>"
+}
+
+// What it ends with.
+#[tactic(auto, unfolding(crate::specs::layout::Lists::bullet_end))]
+pub(crate) fn bullet_end() -> &'static [u8]
+    ensures { result.now ≡ bullet_end }
+{
+    b"</li>\n"
 }

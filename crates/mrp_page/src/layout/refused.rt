@@ -2,7 +2,7 @@
 
 ghost use Rattle.std.specs.Prelude.{◌≡◌, map};
 ghost use Rattle.mrp_page.specs.Template.{drawn_of};
-ghost use Rattle.mrp_page.specs.layout.Refused.{entry_link_open, none_refused, refused_answer, refused_asked, refused_desk, refused_end, refused_front, refused_open, refused_row};
+ghost use Rattle.mrp_page.specs.layout.Refused.{entry_link_open, none_refused, refused_answer, refused_asked, refused_desk, refused_end, refused_front, refused_open};
 
 use crate::template::Part;
 
@@ -36,14 +36,6 @@ pub(crate) fn refused_front() -> &'static [u8]
     ensures { result.now ≡ refused_front }
 {
     b"<table class=\"list even\" aria-label=\"Not promised\"><thead><tr><th class=t scope=col>Item</th><th class=t scope=col>Answer</th><th scope=col>Pieces</th><th scope=col>Week</th><th scope=col>Desk</th><th scope=col>Entry</th></tr></thead>\n<tbody>"
-}
-
-// What a call begins with, before its item.
-#[tactic(auto, unfolding(crate::specs::layout::Refused::refused_row))]
-pub(crate) fn refused_row() -> &'static [u8]
-    ensures { result.now ≡ refused_row }
-{
-    b"<tr><th scope=row>"
 }
 
 // What a call ends with.

@@ -2,7 +2,7 @@
 
 ghost use Rattle.std.specs.Prelude.{◌≡◌, map};
 ghost use Rattle.mrp_page.specs.Template.{drawn_of};
-ghost use Rattle.mrp_page.specs.layout.Said.{no_message, said_back, said_close, said_front, said_open, said_other_back, said_other_front, said_pieces, said_receipt, said_start, said_week};
+ghost use Rattle.mrp_page.specs.layout.Said.{no_message, said_back, said_front, said_open, said_other_back, said_other_front, said_pieces, said_receipt, said_start, said_week};
 
 use crate::template::Part;
 
@@ -63,14 +63,6 @@ pub(crate) fn said_open() -> &'static [u8]
     b"<ul class=said>\n"
 }
 
-// What they end with.
-#[tactic(auto, unfolding(crate::specs::layout::Said::said_close))]
-pub(crate) fn said_close() -> &'static [u8]
-    ensures { result.now ≡ said_close }
-{
-    b"</ul>\n"
-}
-
 // What stands at an item without messages.
 #[tactic(auto, unfolding(crate::specs::layout::Said::no_message))]
 pub(crate) fn no_message() -> &'static [u8]
@@ -101,9 +93,9 @@ pub(crate) fn said_start() -> &'static [Part]
     ensures { map drawn_of result.now ≡ said_start }
 {
     &[
-        Part::Markup(b", start "),
+        Part::Markup(b", "),
         Part::Cell(5),
-        Part::Markup(b", due week "),
+        Part::Markup(b" to start, due week "),
         Part::Cell(3),
         Part::Date(3),
     ]

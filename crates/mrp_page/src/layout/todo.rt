@@ -2,7 +2,7 @@
 
 ghost use Rattle.std.specs.Prelude.{◌≡◌, map};
 ghost use Rattle.mrp_page.specs.Template.{drawn_of};
-ghost use Rattle.mrp_page.specs.layout.Todo.{cancel_front, cancel_open, in_front, in_open, late_front, late_open, nothing_to_do, open_pieces, open_receipt, order_start, order_unknown, order_week, other_cells, other_front, other_open, out_front, out_open, release_front, release_open, row_end, task_middle, task_row, task_supply, to_week, todo_note, todo_open, weeks_late};
+ghost use Rattle.mrp_page.specs.layout.Todo.{cancel_front, cancel_open, in_front, in_open, late_front, late_open, nothing_to_do, open_pieces, open_receipt, order_start, order_unknown, order_week, other_cells, other_front, other_open, out_front, out_open, release_front, release_open, row_end, task_middle, task_supply, to_week, todo_note, todo_open, weeks_late};
 
 use crate::template::Part;
 
@@ -22,14 +22,6 @@ pub(crate) fn todo_note() -> &'static [u8]
     b"<p class=note>Each message speaks of the plan as it stands: change what can be changed, and plan again.</p>\n"
 }
 
-// What a message begins with, before its item.
-#[tactic(auto, unfolding(crate::specs::layout::Todo::task_row))]
-pub(crate) fn task_row() -> &'static [u8]
-    ensures { result.now ≡ task_row }
-{
-    b"<tr><th scope=row>"
-}
-
 // What stands in place of the cells of an order that is not kept.
 #[tactic(auto, unfolding(crate::specs::layout::Todo::order_unknown))]
 pub(crate) fn order_unknown() -> &'static [u8]
@@ -43,7 +35,7 @@ pub(crate) fn order_unknown() -> &'static [u8]
 pub(crate) fn late_front() -> &'static [u8]
     ensures { result.now ≡ late_front }
 {
-    b"<table class=\"list even\" aria-label=\"Past due\"><thead><tr><th class=t scope=col>Item</th><th class=t scope=col>Order</th><th scope=col>Pieces</th><th scope=col>Start</th><th scope=col>Due week</th><th scope=col>Weeks late</th></tr></thead>\n<tbody>"
+    b"<table class=\"list even\" aria-label=\"Past due\"><thead><tr><th class=t scope=col>Item</th><th class=t scope=col>Order</th><th scope=col>Pieces</th><th scope=col>Pieces to start</th><th scope=col>Due week</th><th scope=col>Weeks late</th></tr></thead>\n<tbody>"
 }
 
 // What the table of a kind of messages begins with.
@@ -51,7 +43,7 @@ pub(crate) fn late_front() -> &'static [u8]
 pub(crate) fn release_front() -> &'static [u8]
     ensures { result.now ≡ release_front }
 {
-    b"<table class=\"list even\" aria-label=\"Release\"><thead><tr><th class=t scope=col>Item</th><th class=t scope=col>Order</th><th scope=col>Pieces</th><th scope=col>Start</th><th scope=col>Due week</th><td></td></tr></thead>\n<tbody>"
+    b"<table class=\"list even\" aria-label=\"Release\"><thead><tr><th class=t scope=col>Item</th><th class=t scope=col>Order</th><th scope=col>Pieces</th><th scope=col>Pieces to start</th><th scope=col>Due week</th><td></td></tr></thead>\n<tbody>"
 }
 
 // What the table of a kind of messages begins with.

@@ -2,7 +2,7 @@
 
 ghost use Rattle.std.specs.Prelude.{◌≡◌, map};
 ghost use Rattle.mrp_page.specs.Template.{drawn_of};
-ghost use Rattle.mrp_page.specs.layout.Work.{work_back, work_blank, work_count, work_end, work_head, work_name, work_note, work_open, work_operation, work_other, work_rest, work_share, work_table_end, work_unknown};
+ghost use Rattle.mrp_page.specs.layout.Work.{work_back, work_blank, work_count, work_end, work_head, work_name, work_note, work_open, work_operation, work_other, work_rest, work_share, work_unknown};
 
 use crate::template::Part;
 
@@ -12,43 +12,6 @@ pub(crate) fn work_note() -> &'static [u8]
     ensures { result.now ≡ work_note }
 {
     b"<p class=note>Behind each of the first 100 stand the operations that load it, those first that take the most time.</p>\n"
-}
-
-// What an overload begins with that has its operations behind it.
-#[tactic(auto, unfolding(crate::specs::layout::Work::work_open))]
-pub(crate) fn work_open() -> &'static [Part]
-    ensures { map drawn_of result.now ≡ work_open }
-{
-    &[
-        Part::Markup(b"<li><details><summary><b>"),
-        Part::Cell(2),
-        Part::Cell(3),
-        Part::Markup(b"</b> <a href=\"#c-"),
-        Part::Cell(0),
-        Part::Markup(b"\">"),
-        Part::Cell(0),
-        Part::Markup(b"</a>, week "),
-        Part::Cell(1),
-        Part::Date(1),
-        Part::Markup(b": <span title=\""),
-        Part::Cell(11),
-        Part::Markup(b"\">"),
-        Part::Cell(9),
-        Part::Markup(b"</span> min over; "),
-    ]
-}
-
-// How many operations load it.
-#[tactic(auto, unfolding(crate::specs::layout::Work::work_count))]
-pub(crate) fn work_count() -> &'static [Part]
-    ensures { map drawn_of result.now ≡ work_count }
-{
-    &[
-        Part::Cell(0),
-        Part::Markup(b" "),
-        Part::Cell(1),
-        Part::Markup(b"</summary>\n"),
-    ]
 }
 
 // What the table of these operations begins with.
@@ -66,7 +29,7 @@ pub(crate) fn work_head() -> &'static [Part]
         Part::Markup(b" in week "),
         Part::Cell(1),
         Part::Markup(
-            b"\"><thead><tr><th class=t scope=col>Order</th><th scope=col>Operation</th><th scope=col>Minutes</th><th scope=col>Share of capacity</th><th scope=col>Start</th><th scope=col>Due week</th><th scope=col>Weeks late</th></tr></thead>\n<tbody>",
+            b"\"><thead><tr><th class=t scope=col>Order</th><th scope=col>Operation</th><th scope=col>Minutes</th><th scope=col>Share of capacity</th><th scope=col>Pieces to start</th><th scope=col>Due week</th><th scope=col>Weeks late</th></tr></thead>\n<tbody>",
         ),
     ]
 }
@@ -147,14 +110,6 @@ pub(crate) fn work_blank() -> &'static [u8]
     b"<td></td><td></td><td class=z></td></tr>\n"
 }
 
-// What the table of operations ends with.
-#[tactic(auto, unfolding(crate::specs::layout::Work::work_table_end))]
-pub(crate) fn work_table_end() -> &'static [u8]
-    ensures { result.now ≡ work_table_end }
-{
-    b"</tbody></table></div>\n"
-}
-
 // What stands in its place if the operations take more time than the load has.
 #[tactic(auto, unfolding(crate::specs::layout::Work::work_unknown))]
 pub(crate) fn work_unknown() -> &'static [u8]
@@ -169,4 +124,26 @@ pub(crate) fn work_end() -> &'static [u8]
     ensures { result.now ≡ work_end }
 {
     b"</details></li>\n"
+}
+
+// What an overload begins with that has its operations behind it.
+#[tactic(auto, unfolding(crate::specs::layout::Work::work_open))]
+pub(crate) fn work_open() -> &'static [u8]
+    ensures { result.now ≡ work_open }
+{
+    b"<li><details><summary>"
+}
+
+// How many operations load it.
+#[tactic(auto, unfolding(crate::specs::layout::Work::work_count))]
+pub(crate) fn work_count() -> &'static [Part]
+    ensures { map drawn_of result.now ≡ work_count }
+{
+    &[
+        Part::Markup(b"; "),
+        Part::Cell(0),
+        Part::Markup(b" "),
+        Part::Cell(1),
+        Part::Markup(b"</summary>\n"),
+    ]
 }

@@ -1,4 +1,4 @@
-use Rattle.mrp_page.proofs.OutRows.{left-over, left-short, outs-once, outs-rise}
+use Rattle.mrp_page.proofs.OutRows.{left-over, left-short, outs-once, outs-rise, shown-are}
 use Rattle.mrp_page.proofs.Safety.{cell-is}
 use Rattle.mrp_page.proofs.laws.items_run_out_in_order.Goals as goal
 
@@ -16,3 +16,6 @@ returns-clause-short c = left-short
 
 pub returns-clause-safety : goal.returns-clause-safety
 returns-clause-safety c = cell-is
+
+pub returns-clause-shown : goal.returns-clause-shown
+returns-clause-shown c = shown-are

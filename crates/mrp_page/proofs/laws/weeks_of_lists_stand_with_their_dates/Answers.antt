@@ -1,4 +1,4 @@
-use Rattle.mrp_page.proofs.ListWeeks.{alone-is, at-risk-is, call-is, cell-is, entry-is, explained-is, operation-is, order-is, overload-is, peg-is, runs-out-is, said-is, to-week-is, undated-are, unsaid-is, worst-is}
+use Rattle.mrp_page.proofs.ListWeeks.{alone-is, at-risk-is, call-is, cell-is, entry-is, explained-is, history-is, operation-is, order-is, overload-is, peg-is, plain-is, runs-out-is, said-is, to-week-is, undated-are, unsaid-is, worst-is}
 use Rattle.mrp_page.proofs.laws.weeks_of_lists_stand_with_their_dates.Goals as goal
 
 pub returns-clause-undated : goal.returns-clause-undated
@@ -37,11 +37,17 @@ returns-clause-call c = call-is
 pub returns-clause-entry : goal.returns-clause-entry
 returns-clause-entry c = entry-is
 
+pub returns-clause-history : goal.returns-clause-history
+returns-clause-history c = history-is
+
 pub returns-clause-operation : goal.returns-clause-operation
 returns-clause-operation c = operation-is
 
 pub returns-clause-overload : goal.returns-clause-overload
 returns-clause-overload c = overload-is
+
+pub returns-clause-plain : goal.returns-clause-plain
+returns-clause-plain c = plain-is
 
 pub returns-clause-explained : goal.returns-clause-explained
 returns-clause-explained c = explained-is
