@@ -1,5 +1,5 @@
 -- What is wrong with a table's first record (profile).
-use Rattle.std.specs.Prelude.{ℕ, suc, ◌==◌, ◌&&◌, ◌||◌, ◌+◌, ◌-◌, nat_eq, not, if◌then◌else◌, Bool, List, [], ◌∷◌, ◌++◌, codes, decimal, drop, length, slice_index_or, Option, Some, None}
+use Rattle.std.specs.Prelude.{ℕ, suc, ◌==◌, ◌&&◌, ◌||◌, ◌+◌, ◌-◌, nat_eq, not, if◌then◌else◌, Bool, List, [], ◌∷◌, ◌++◌, codes, decimal, length, slice_index_or, Option, Some, None}
 use Rattle.std.specs.Cmp.Lexicographic.{pointwise}
 use Rattle.std.specs.List.{list_all, list_any}
 use Rattle.mrp_rows.specs.declared.fault.Table.{Table}

@@ -1,5 +1,5 @@
 -- What is said of a record as a whole (profile).
-use Rattle.std.specs.Prelude.{ℕ, ◌==◌, ◌-◌, nat_lt, if◌then◌else◌, Bool, List, [], ◌++◌, codes, decimal, drop, length}
+use Rattle.std.specs.Prelude.{ℕ, ◌==◌, ◌-◌, nat_lt, if◌then◌else◌, Bool, List, [], ◌++◌, codes, decimal, length}
 use Rattle.std.specs.List.{list_any}
 use Rattle.mrp_rows.specs.Bundle.{ends_line}
 use Rattle.mrp_survey.specs.declared.kind.Words.{Words}

@@ -1,5 +1,5 @@
 -- Faults of files and of section lines, in words (profile).
-use Rattle.std.specs.Prelude.{ℕ, List, [], ◌∷◌, ◌++◌, codes, decimal, filter_map, map, Option, Some, None}
+use Rattle.std.specs.Prelude.{ℕ, List, [], ◌++◌, codes, decimal, filter_map, map, Option, Some, None}
 use Rattle.std.specs.List.{slice_index_or}
 use Rattle.mrp_rows.specs.FaultText.{table_name}
 use Rattle.mrp_rows.specs.Tables.{table_index}

@@ -1,6 +1,6 @@
 -- Bill lines, record by record, and the places of their items.
-use Rattle.std.proofs.Common.{◌≡◌, ◌∙◌, ◌+◌, ◌-◌, ◌<◌, ◌≤◌, ℕ, zero, suc, Bool, true, false, List, [], ◌∷◌, ◌++◌, Option, Some, None, length, map, take, drop, nat_eq, refl, sym, ap, arith, append_assoc, append-nil}
-use Rattle.std.specs.Prelude.{◌&&◌, if◌then◌else◌, is_none, option_and_then, position}
+use Rattle.std.proofs.Common.{◌≡◌, ◌∙◌, ◌+◌, ◌-◌, ◌<◌, ◌≤◌, ℕ, zero, suc, Bool, true, false, List, [], ◌∷◌, ◌++◌, Option, Some, None, map, take, nat_eq, refl, sym, ap, arith, append_assoc, append-nil}
+use Rattle.std.specs.Prelude.{if◌then◌else◌, option_and_then}
 use Rattle.std.specs.Cmp.Lexicographic.{pointwise}
 use Rattle.std.specs.List.{All}
 use Rattle.std.specs.Option.{option_to_list}

@@ -1,5 +1,5 @@
 -- What names of items are among the known items.
-use Rattle.std.specs.Prelude.{ℕ, List, Option, option_and_then}
+use Rattle.std.specs.Prelude.{ℕ, Option}
 use Rattle.mrp_rows.specs.declared.fault.Table.{Table}
 use Rattle.mrp_rows.specs.declared.fault.Table.TheVariants as t
 use Rattle.mrp_survey.specs.declared.rule.Named.{Named}

@@ -1,9 +1,8 @@
-use Rattle.std.proofs.Common.{◌≡◌, ◌∙◌, ℕ, Bool, List, Option, Vec, refl, subst}
+use Rattle.std.proofs.Common.{◌≡◌, ◌∙◌, ℕ, Bool, List, Vec, refl, subst}
 use Rattle.std.specs.declared.alloc.Global.{Global}
 use Rattle.mrp_rows.specs.declared.fault.Table.{Table}
 use Rattle.mrp_words.specs.Folder.{Known}
 use Rattle.mrp_inspect.specs.Found.{AreOthers, IsPathKindIf, are_none}
-use Rattle.mrp_inspect.specs.declared.names.Naming.{Naming}
 use Rattle.mrp_inspect.proofs.found.find_rest.Goals as goal
 
 pub returns : goal.returns

@@ -4,7 +4,6 @@ use Rattle.mrp_rows.specs.Shown.{shown_of}
 use Rattle.mrp_survey.specs.Tables.{width_of}
 use Rattle.mrp_survey.proofs.RowSteps.{entry-is, was-none, was-read}
 use Rattle.mrp_survey.proofs.Steps.{names-further, told-all, told-further, told-past}
-use Rattle.mrp_survey.specs.Finding.{Told}
 use Rattle.mrp_survey.specs.Forms.{AllCells}
 use Rattle.mrp_survey.specs.Headers.{limit_of}
 use Rattle.mrp_survey.specs.Keys.{Keys}

@@ -1,4 +1,4 @@
-use Rattle.std.proofs.Common.{◌≡◌, ◌∙◌, Bor, List, Option, Some, ℕ, ap, length, map, sym}
+use Rattle.std.proofs.Common.{◌≡◌, ◌∙◌, Bor, List, Some, ℕ, ap, length, map, sym}
 use Rattle.std.proofs.lemmas.List.{length-map}
 use Rattle.mrp_rows.specs.Shown.{Shown, shown_of}
 use Rattle.mrp_survey.specs.Records.{rows_below}
