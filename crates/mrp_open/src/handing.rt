@@ -1,0 +1,128 @@
+//! Runs that are handed to the thread that makes their files.
+
+ghost use Rattle.std.specs.Prelude.{◌≡◌};
+ghost use Rattle.mrp_runs.specs.File.{IsRun};
+ghost use Rattle.mrp_runs.specs.declared.run.Run.{Run};
+
+use crate::batches::RunTaker;
+use crate::notes::Notes;
+use crossbeam_channel::{Receiver, Sender};
+use mrp_folder::DiskFolder;
+use mrp_rows::Told;
+use mrp_runs::{Note, Refusal, Run, RunMaker, tell_run};
+use std::alloc::Global;
+use std::marker::{Brand, PhantomData};
+use std::rt::Files;
+use std::sync::Wait;
+use std::thread::Threads;
+
+// The name that a run's file is begun with.
+const RUN_PART: &str = "run.part";
+
+/// Which runs are handed over: those of one shop.
+pub trait RunKind {
+    /// A run is one of them.
+    ghost holds: { Run → Type 0 };
+}
+
+impl RunKind for Brand {
+    ghost use Rattle.std.specs.Prelude.{⊤};
+
+    ghost holds = { λ _. ⊤ };
+}
+
+/// A run that is handed over.
+#[derive(Drop)]
+pub struct Given<K: RunKind> {
+    run: Run,
+    of: PhantomData<K>,
+    ghost is: { K.holds run },
+}
+
+/// Sends runs to the thread that makes their files.
+#[derive(Drop)]
+pub struct RunSender<'a, K: RunKind, R> {
+    rt: &'a R,
+    to: Option<Sender<Given<K>>>,
+}
+
+impl<'a, K: RunKind, R> RunSender<'a, K, R> {
+    /// A sender of runs.
+    pub fn new(rt: &'a R, to: Sender<Given<K>>) -> RunSender<'a, K, R> {
+        RunSender { rt, to: Some(to) }
+    }
+}
+
+// A run to be handed over.
+fn given<K: RunKind>(run: Run) -> Given<K>
+    requires { K.holds run }
+{
+    Given {
+        run,
+        of: PhantomData,
+    }
+}
+
+impl<'a, K: RunKind, R: Eprint + Wait> RunTaker for RunSender<'a, K, R> {
+    ghost use Rattle.std.specs.Prelude.{None};
+
+    ghost takes = { K.holds };
+
+    ghost told = { λ _. None };
+
+    fn take(&mut self, run: Run) {
+        let front = run.snapshot.front();
+        let is_sent = match &self.to {
+            Some(to) => to.send(self.rt, given(run)).is_ok(),
+            None => false,
+        };
+        if !is_sent {
+            self.miss(front);
+        }
+    }
+
+    fn miss(&mut self, front: u64) {
+        let mut notes = Told::new(Notes { rt: self.rt });
+        let _ = tell_run(front, Note::Refused(Refusal::NoMemory), &mut notes);
+    }
+
+    fn close(&mut self) {
+        self.to = None;
+    }
+}
+
+// Makes the file of a run, and tells of it.
+fn make_one<R: Alloc + Eprint + Files + Threads + Wait + Sync>(
+    rt: &R,
+    alloc: Global,
+    maker: &mut RunMaker<'_>,
+    run: &Run,
+    files: &mut DiskFolder<'_, R>,
+    notes: &mut Told<Notes<'_, R>>,
+)
+    requires { IsRun maker.old run.now }
+    ensures { maker.new ≡ maker.old }
+{
+    let made = maker.make(rt, alloc, run, files);
+    if let Some(note) = Note::of(&made) {
+        let _ = tell_run(run.snapshot.front(), note, notes);
+    }
+}
+
+/// Makes the files of runs in a folder, one after the other as they come, until there is no sender any more.
+pub fn make_all<K: RunKind, R: Alloc + Eprint + Files + Threads + Wait + Sync>(
+    rt: &R,
+    alloc: Global,
+    maker: &mut RunMaker<'_>,
+    from: &Receiver<Given<K>>,
+    folder: &str,
+)
+    requires { (run : Run) → K.holds run → IsRun maker.old run }
+    ensures { maker.new ≡ maker.old }
+{
+    let mut files = DiskFolder::new(rt, alloc, folder, RUN_PART);
+    let mut notes = Told::new(Notes { rt });
+    for given in from.iter(rt) {
+        make_one(rt, alloc, maker, &given.run, &mut files, &mut notes);
+    }
+}
