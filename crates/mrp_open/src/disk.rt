@@ -1,5 +1,9 @@
 //! What a start does with a folder of the operating system. No contract can say what its files have.
 
+ghost use Rattle.std.specs.Prelude.{IfOk};
+ghost use Rattle.std.specs.Path.{path_join};
+ghost use Rattle.mrp_words.specs.Folder.{IsThere};
+
 use mrp_journal::JournalFile;
 use mrp_qty::NoMemory;
 use mrp_words::FileStore;
@@ -94,7 +98,9 @@ pub fn has_file<F: FileStore>(
     alloc: Global,
     folder: &str,
     name: &str,
-) -> Result<bool, NoMemory> {
+) -> Result<bool, NoMemory>
+    ensures { IfOk result (IsThere (F.known files.now) (path_join folder.now name.now)) }
+{
     let path = Path::new(folder).join(alloc, name)?;
     Ok(files.can_be_opened(path.as_str()))
 }
