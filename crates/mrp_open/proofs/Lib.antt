@@ -1,0 +1,5 @@
+pub mod Batches
+pub mod Finding
+pub mod Runs
+pub mod Starting
+pub mod Told
