@@ -22,7 +22,7 @@ pub use planning::plan_run;
 pub(crate) use planning::{inputs_of, name_of};
 pub use run::{MOST_WORKERS, run_bundle, run_day};
 use runs::plan_runs;
-pub(crate) use runs::{RunResult, plan_or_refuse};
+pub use runs::{RunResult, plan_or_refuse};
 use std::alloc::Global;
 use std::sync::{Arc, Wait};
 use std::thread::Threads;
