@@ -122,11 +122,11 @@ fn serve_batch<S: Store, R: Read, W: Write, T: RunTaker>(
     requires taken { (run : Run) → IsRun desk.old.tables run → T.takes run }
     ensures { MatchOption result
         (Advances intake.old.begun (R.remaining (inner_of input.old)) intake.new.begun (R.remaining (inner_of input.new))
-            (record { desk = desk.old; journal = S.held journal.old; output = W.contents (inner_of output.old) })
-            (record { desk = desk.new; journal = S.held journal.new; output = W.contents (inner_of output.new) }) (T.told taker.old) (T.told taker.new))
+        (record { desk = desk.old; journal = S.held journal.old; output = W.contents (inner_of output.old) })
+        (record { desk = desk.new; journal = S.held journal.new; output = W.contents (inner_of output.new) }) (T.told taker.old) (T.told taker.new))
         (λ end. StopsAt intake.old.begun (R.remaining (inner_of input.old))
-            (record { desk = desk.old; journal = S.held journal.old; output = W.contents (inner_of output.old) })
-            (record { desk = desk.new; journal = S.held journal.new; output = W.contents (inner_of output.new) }) end × (T.told taker.new ≡ T.told taker.old)) }
+        (record { desk = desk.old; journal = S.held journal.old; output = W.contents (inner_of output.old) })
+        (record { desk = desk.new; journal = S.held journal.new; output = W.contents (inner_of output.new) }) end × (T.told taker.new ≡ T.told taker.old)) }
 {
     match intake.next_batch(input) {
         Ok(true) => {}
@@ -164,15 +164,7 @@ pub fn serve<S: Store, R: Read, W: Write, T: RunTaker>(
         records: Vec::new(alloc),
     };
     for _round in 0..u64::MAX {
-        let end = serve_batch(
-            desk,
-            &mut intake,
-            &mut texts,
-            journal,
-            input,
-            output,
-            taker,
-        );
+        let end = serve_batch(desk, &mut intake, &mut texts, journal, input, output, taker);
         if let Some(end) = end {
             return end;
         }

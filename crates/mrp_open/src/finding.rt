@@ -30,10 +30,7 @@ pub struct Found {
 }
 
 // Takes the bytes of the script from tables, of which it is the last if it is there.
-fn take_script(
-    alloc: Global,
-    tables: &mut Vec<(Table, Vec<u8>)>,
-) -> Result<Vec<u8>, NoMemory>
+fn take_script(alloc: Global, tables: &mut Vec<(Table, Vec<u8>)>) -> Result<Vec<u8>, NoMemory>
     ensures { IfOk result (λ script. TakesScript (map (λ part. (part.0, part.1.items)) tables.old.items) (map (λ part. (part.0, part.1.items)) tables.new.items) script.items) }
 {
     match tables.pop() {
