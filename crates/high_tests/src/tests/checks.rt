@@ -72,7 +72,7 @@ pub(super) fn make_folder(files: &impl Files) -> Result<(), Fail> {
 }
 
 // What the check of a day of these pieces leaves.
-fn checked<R: Alloc + Abort + Eprint + Files + Threads + Wait + Sync>(
+fn checked<R: Alloc + Abort + Eprint + Files<File = File> + Threads + Wait + Sync>(
     rt: &R,
     alloc: Global,
     pieces: &[&str],
@@ -85,7 +85,7 @@ fn checked<R: Alloc + Abort + Eprint + Files + Threads + Wait + Sync>(
 }
 
 // What the check of the right day leaves with the first occurrence of this text replaced.
-fn checked_changed<R: Alloc + Abort + Eprint + Files + Threads + Wait + Sync>(
+fn checked_changed<R: Alloc + Abort + Eprint + Files<File = File> + Threads + Wait + Sync>(
     rt: &R,
     alloc: Global,
     old: &str,

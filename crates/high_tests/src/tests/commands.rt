@@ -10,6 +10,7 @@ use sample_shops::bicycles;
 use std::alloc::Global;
 use std::fs;
 use std::fs::{File, OpenFile};
+use std::io::Eprint;
 use std::os::unix::fs::symlink;
 use std::process::Abort;
 use std::rt::Files;
@@ -54,7 +55,7 @@ pub struct Left {
 }
 
 // What these words leave.
-pub fn left_by<R: Alloc + Abort + Files + Threads + Wait + Sync>(
+pub fn left_by<R: Alloc + Abort + Eprint + Files<File = File> + Threads + Wait + Sync>(
     rt: &R,
     alloc: Global,
     words: &[&str],
@@ -72,7 +73,7 @@ pub fn left_by<R: Alloc + Abort + Files + Threads + Wait + Sync>(
 }
 
 // What they leave on the output, of streams that move everything.
-pub fn output_of<R: Alloc + Abort + Files + Threads + Wait + Sync>(
+pub fn output_of<R: Alloc + Abort + Eprint + Files<File = File> + Threads + Wait + Sync>(
     rt: &R,
     alloc: Global,
     words: &[&str],
@@ -126,7 +127,7 @@ fn bundles_are_planned_by_1_to_64_workers(rt: HostRuntime) {
 }
 
 // The status of a run whose error stream fails.
-fn unheard_status<R: Alloc + Abort + Files + Threads + Wait + Sync>(
+fn unheard_status<R: Alloc + Abort + Eprint + Files<File = File> + Threads + Wait + Sync>(
     rt: &R,
     alloc: Global,
     words: &[&str],

@@ -8,6 +8,7 @@ use super::{made, same};
 use mrp_rows::devices::{Act, Stretch, one_else};
 use sample_shops::{Records, bicycles_welded};
 use std::alloc::Global;
+use std::fs::File;
 use std::io::Eprint;
 use std::process::Abort;
 use std::rt::Files;
@@ -54,7 +55,7 @@ fn bundle_of<R: Alloc + Abort + Eprint>(rt: &R, alloc: Global, script: &str) -> 
     made(rt, shop.bundle(alloc))
 }
 
-fn made_texts<R: Alloc + Abort + Eprint + Files + Threads + Wait + Sync>(
+fn made_texts<R: Alloc + Abort + Eprint + Files<File = File> + Threads + Wait + Sync>(
     rt: &R,
     alloc: Global,
 ) -> Texts {
@@ -118,7 +119,7 @@ const GIVEN: usize = 7;
 const TAKEN: usize = 50;
 
 // Fails unless these words say so of each read that fails, the one at the input's end too.
-fn reads_are_told<R: Alloc + Abort + Files + Threads + Wait + Sync>(
+fn reads_are_told<R: Alloc + Abort + Eprint + Files<File = File> + Threads + Wait + Sync>(
     rt: &R,
     alloc: Global,
     case: Case<'_>,
@@ -156,7 +157,7 @@ fn has_front(rt: &impl Abort, left: &Left, output: &str) {
 }
 
 // Fails unless these words say so of each write that does this, the last one too.
-fn writes_are_told<R: Alloc + Abort + Files + Threads + Wait + Sync>(
+fn writes_are_told<R: Alloc + Abort + Eprint + Files<File = File> + Threads + Wait + Sync>(
     rt: &R,
     alloc: Global,
     case: Case<'_>,
@@ -197,7 +198,7 @@ fn each_write_that_fails_or_takes_nothing_is_told(rt: HostRuntime) {
 const SHORT: &[Stretch] = &[Stretch(1, Act::Moves(7)), Stretch(1, Act::Interrupts)];
 
 // Fails unless these words go on after short and interrupted reads and after such writes.
-fn go_on_after<R: Alloc + Abort + Files + Threads + Wait + Sync>(
+fn go_on_after<R: Alloc + Abort + Eprint + Files<File = File> + Threads + Wait + Sync>(
     rt: &R,
     alloc: Global,
     case: Case<'_>,
@@ -239,7 +240,7 @@ const IMPATIENT: &[Stretch] = &[
 ];
 
 // Fails unless these words give up a writer that is interrupted once more.
-fn give_up<R: Alloc + Abort + Files + Threads + Wait + Sync>(
+fn give_up<R: Alloc + Abort + Eprint + Files<File = File> + Threads + Wait + Sync>(
     rt: &R,
     alloc: Global,
     case: Case<'_>,
