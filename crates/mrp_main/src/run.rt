@@ -4,7 +4,7 @@ ghost use Rattle.std.specs.Prelude.{◌<◌, map};
 ghost use Rattle.std.specs.Result.{ForOk};
 ghost use Rattle.std.specs.Int.{IsInRange};
 ghost use Rattle.mrp_words.specs.declared.command.Request.TheVariants as asked;
-ghost use Rattle.mrp_words.specs.declared.day.TheConstants.{MOST_WORKERS};
+ghost use Rattle.mrp_words.specs.declared.command.TheConstants.{MOST_WORKERS};
 ghost use Rattle.mrp_words.specs.Folder.{nothing_known};
 ghost use Rattle.mrp_words.specs.Words.{HasWorkers};
 ghost use Rattle.mrp_open.specs.Ends.{TellsEnd};
