@@ -163,7 +163,7 @@ pub fn serve<S: Store, R: Read, W: Write, T: RunTaker>(
         answers: Vec::new(alloc),
         records: Vec::new(alloc),
     };
-    for _round in 0..u64::MAX {
+    for _ in 0..u64::MAX {
         let end = serve_batch(desk, &mut intake, &mut texts, journal, input, output, taker);
         if let Some(end) = end {
             return end;
