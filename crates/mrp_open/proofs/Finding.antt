@@ -11,7 +11,7 @@ use Rattle.mrp_words.specs.Folder.{AreParts, Kept, Known, all_tables, part_in}
 use Rattle.mrp_open.specs.Start.{EndsWithout, HasFound, IsFoundOf, IsSplit, IsTooLong, TakesScript, bundle_with}
 use Rattle.mrp_open.specs.declared.finding.Found.{Found}
 
-NoScript : Part → Type 0
+abbrev NoScript : Part → Type 0
 NoScript part = part.0 ≢ t.Script
 
 -- the last of a list
@@ -38,7 +38,7 @@ last-same {X} (a ∷ xs) (b ∷ ys) x y e =
     (ap₂ (λ (u : X) (us : List X). u ∷ us) first both.0, both.1)
 
 -- the part of the script's file
-script_part : Option (List ℕ) → List Part
+abbrev script_part : Option (List ℕ) → List Part
 script_part None = []
 script_part (Some bytes) = (t.Script, bytes) ∷ []
 
@@ -76,7 +76,7 @@ parted (table ∷ tables) others (f ∷ rest) e =
     parted-more f.0 f.1 rest (λ (script : f.0 ≡ t.Script). All-head (λ (x : Table). x ≢ t.Script) table tables others (sym is ∙ script))
     (parted tables (All-tail (λ (x : Table). x ≢ t.Script) table tables others) rest more)
 
-eight : List Table
+abbrev eight : List Table
 eight = t.Calendar ∷ t.Items ∷ t.Centres ∷ t.Stock ∷ t.Receipts ∷ t.Bills ∷ t.Routings ∷ t.Master ∷ []
 
 no-scripts : All (λ (table : Table). table ≢ t.Script) eight
