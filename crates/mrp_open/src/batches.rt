@@ -1,6 +1,6 @@
 //! The batches of an order desk.
 
-ghost use Rattle.std.specs.Prelude.{◌≡◌, ◌⊎◌, IfErr, IfSome, MatchOption, OnErr, OnOk};
+ghost use Rattle.std.specs.Prelude.{◌≡◌, ◌⊎◌, ℕ, List, Option, IfErr, IfSome, MatchOption, OnErr, OnOk};
 ghost use Rattle.std.specs.List.{All};
 ghost use Rattle.mrp_rows.specs.Told.{inner_of};
 ghost use Rattle.mrp_intake.specs.Lines.{told_lines};
@@ -24,8 +24,6 @@ use std::io::{Read, Write};
 
 /// Takes runs that were answered.
 pub trait RunTaker {
-    ghost use Rattle.std.specs.Prelude.{ℕ, List, Option};
-
     /// The runs that it may be given.
     ghost takes: { Run → Type 0 };
 
