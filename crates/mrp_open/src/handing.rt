@@ -54,7 +54,7 @@ impl<'a, K: RunKind, R> RunSender<'a, K, R> {
 }
 
 // A run to be handed over.
-fn given<K: RunKind>(run: Run) -> Given<K>
+fn to_hand<K: RunKind>(run: Run) -> Given<K>
     requires { K.holds run }
 {
     Given {
@@ -73,7 +73,7 @@ impl<'a, K: RunKind, R: Eprint + Wait> RunTaker for RunSender<'a, K, R> {
     fn take(&mut self, run: Run) {
         let front = run.snapshot.front();
         let is_sent = match &self.to {
-            Some(to) => to.send(self.rt, given(run)).is_ok(),
+            Some(to) => to.send(self.rt, to_hand(run)).is_ok(),
             None => false,
         };
         if !is_sent {
