@@ -1,5 +1,5 @@
 -- Batches are settled one after the other.
-use Rattle.std.proofs.Common.{◌≡◌, ◌∙◌, ◌⊎◌, ℕ, Bool, true, false, List, [], ◌∷◌, ◌++◌, Option, Some, None, inl, inr, ap, append_assoc, drop, length, map, refl, subst, sym}
+use Rattle.std.proofs.Common.{◌≡◌, ◌∙◌, ◌⊎◌, ◌≤◌, ℕ, Bool, true, false, List, [], ◌∷◌, ◌++◌, Option, Some, None, inl, inr, ap, append_assoc, arith, drop, length, length-append, map, refl, subst, sym}
 use Rattle.std.proofs.Math.Seq.{drop-append_seam}
 use Rattle.std.proofs.lemmas.List.{append-nil}
 use Rattle.std.specs.Prelude.{IfSome, option_map}
@@ -28,7 +28,7 @@ use Rattle.mrp_commands.specs.Refusal.{end_of_read}
 use Rattle.mrp_commands.specs.declared.ending.Ending.{Ending}
 use Rattle.mrp_commands.specs.declared.ending.Ending.TheVariants as ending
 use Rattle.mrp_open.specs.Runs.{HandsOver, HandsOverAll}
-use Rattle.mrp_open.specs.Served.{Advances, BringsLines, HandsMore, IsServingEnd, Serves, Settles, Stand, Stops, StopsAt}
+use Rattle.mrp_open.specs.Served.{Advances, BringsLines, Fails, HandsMore, IsBatchEnd, IsServingEnd, Serves, Settles, SettlesRuns, Stand, Stops, StopsAt}
 
 -- What lines do to a desk.
 
@@ -185,7 +185,7 @@ brings-rest b1 b2 (Some x) (Some y) lines h = h
 
 -- nothing was read yet
 pub advances-none : (given : Option (List ℕ)) (old : Stand) (told : Option (List ℕ)) → IfSome old.journal IsSettled → Advances [] given [] given old old told told
-advances-none given old told is = record { lines = []; brings = brings-none given; settled = settles-none old is; handed = hands-none old.desk.entries told }
+advances-none given old told is = record { lines = []; brings = brings-none given; settles = record { settled = settles-none old is; handed = hands-none old.desk.entries told } }
 
 -- one batch more
 pub advances-both : (b1 b2 b3 : List ℕ) (g1 g2 g3 : Option (List ℕ)) (old mid new : Stand) (t1 t2 t3 : Option (List ℕ))
@@ -193,30 +193,32 @@ pub advances-both : (b1 b2 b3 : List ℕ) (g1 g2 g3 : Option (List ℕ)) (old mi
 advances-both b1 b2 b3 g1 g2 g3 old mid new t1 t2 t3 p q = record {
   lines = p.lines ++ q.lines;
   brings = brings-both b1 b2 b3 g1 g2 g3 p.lines q.lines p.brings q.brings;
-  settled = settles-both p.lines q.lines old mid new p.settled q.settled;
-  handed = hands-both old.desk.entries mid.desk.entries new.desk.entries t1 t2 t3 p.handed q.handed;
+  settles = record {
+    settled = settles-both p.lines q.lines old mid new p.settles.settled q.settles.settled;
+    handed = hands-both old.desk.entries mid.desk.entries new.desk.entries t1 t2 t3 p.settles.handed q.settles.handed;
+  };
 }
 
 -- what was settled is durable
 pub advances-durable : (b1 b2 : List ℕ) (g1 g2 : Option (List ℕ)) (old new : Stand) (t1 t2 : Option (List ℕ)) → Advances b1 g1 b2 g2 old new t1 t2 → IfSome new.journal IsSettled
-advances-durable b1 b2 g1 g2 old new t1 t2 p = durable-kept old.journal new.journal p.settled.records p.settled.kept
+advances-durable b1 b2 g1 g2 old new t1 t2 p = durable-kept old.journal new.journal p.settles.settled.records p.settles.settled.kept
 
 -- the tables stay
 pub advances-tables : (b1 b2 : List ℕ) (g1 g2 : Option (List ℕ)) (old new : Stand) (t1 t2 : Option (List ℕ)) → Advances b1 g1 b2 g2 old new t1 t2 → new.desk.tables ≡ old.desk.tables
 advances-tables b1 b2 g1 g2 old new t1 t2 p =
-    let g : Grows old.desk new.desk = grows p.lines old.desk new.desk p.settled.answers p.settled.records p.settled.answered in
+    let g : Grows old.desk new.desk = grows p.lines old.desk new.desk p.settles.settled.answers p.settles.settled.records p.settles.settled.answered in
     g.same
 
--- a batch was settled, and its runs were told
+-- a batch was settled, and the runs behind the entries before were told
+pub settles-runs : (lines : List (List ℕ)) (old new : Stand) (t1 t2 : Option (List ℕ)) → Settles lines old new → HandsOverAll (drop (length old.desk.entries) new.desk.entries) t1 t2 → SettlesRuns lines old new t1 t2
+settles-runs lines old new t1 t2 s h =
+    record { settled = s; handed = hands-since old.desk new.desk t1 t2 (grows lines old.desk new.desk s.answers s.records s.answered) h }
+
+-- a batch was read and settled
 pub advances-batch : (old_intake new_intake : Taken) (before after : Option (List ℕ)) (old new : Stand) (t1 t2 : Option (List ℕ))
-    → BringsKnown old_intake new_intake before after → Settles (told_lines new_intake.batch) old new → HandsOverAll (drop (length old.desk.entries) new.desk.entries) t1 t2
-    → Advances old_intake.begun before new_intake.begun after old new t1 t2
-advances-batch old_intake new_intake before after old new t1 t2 b s h = record {
-  lines = told_lines new_intake.batch;
-  brings = brings-batch old_intake new_intake before after b;
-  settled = s;
-  handed = hands-since old.desk new.desk t1 t2 (grows (told_lines new_intake.batch) old.desk new.desk s.answers s.records s.answered) h;
-}
+    → BringsKnown old_intake new_intake before after → SettlesRuns (told_lines new_intake.batch) old new t1 t2 → Advances old_intake.begun before new_intake.begun after old new t1 t2
+advances-batch old_intake new_intake before after old new t1 t2 b s =
+    record { lines = told_lines new_intake.batch; brings = brings-batch old_intake new_intake before after b; settles = s }
 
 -- the input has ended
 lines-none : lines_of [] ≡ []
@@ -266,20 +268,20 @@ stops-read begun given old fault end is = record {
 pub stops-tired : (begun : List ℕ) (given : Option (List ℕ)) (old : Stand) → StopsAt begun given old old ending.Read
 stops-tired begun given old = stops-read begun given old read.Read ending.Read refl
 
-serving-batch : (end : Ending) → (end ≡ ending.NoMemory) ⊎ (end ≡ ending.Write) → IsServingEnd end × (end ≡ ending.Done → ⊥)
+serving-batch : (end : Ending) → IsBatchEnd end → IsServingEnd end × (end ≡ ending.Done → ⊥)
 serving-batch end (inl is) = (inr (inl is), λ (done : end ≡ ending.Done). cc)
 serving-batch end (inr is) = (inr (inr (inr is)), λ (done : end ≡ ending.Done). cc)
 
 -- a batch was not settled
 pub stops-batch : (old_intake new_intake : Taken) (before after : Option (List ℕ)) (old new : Stand) (end : Ending)
-    → BringsKnown old_intake new_intake before after → Stops (told_lines new_intake.batch) old new → (end ≡ ending.NoMemory) ⊎ (end ≡ ending.Write) → StopsAt old_intake.begun before old new end
-stops-batch old_intake new_intake before after old new end b s is = record {
+    → BringsKnown old_intake new_intake before after → Fails (told_lines new_intake.batch) old new end → StopsAt old_intake.begun before old new end
+stops-batch old_intake new_intake before after old new end b s = record {
   lines = told_lines new_intake.batch;
   rest = left_lines new_intake.begun after;
   given_are = brings-rest old_intake.begun new_intake.begun before after (told_lines new_intake.batch) (brings-batch old_intake new_intake before after b);
-  stopped = s;
-  all = λ done. absurd ((serving-batch end is).1 done);
-  ends = (serving-batch end is).0;
+  stopped = s.stopped;
+  all = λ done. absurd ((serving-batch end s.ends).1 done);
+  ends = (serving-batch end s.ends).0;
 }
 
 given-both : (begun : List ℕ) (given left : Option (List ℕ)) (lines more rest : List (List ℕ)) → BringsLines [] given lines begun left → IfSome left (λ text. told_lines (begun ++ text) ≡ more ++ rest)
@@ -296,10 +298,21 @@ serves given left begun old between new told_old told_new end p q = record {
   more = q.lines;
   rest = q.rest;
   between = between;
-  settled = p.settled;
-  handed = p.handed;
+  settles = p.settles;
   stopped = q.stopped;
   given_are = given-both begun given left p.lines q.lines q.rest p.brings q.given_are;
   all = q.all;
   ends = q.ends;
 }
+
+-- entries stay
+pub at-least : (lines : List (List ℕ)) (old new : Stand) → Settles lines old new → length old.desk.entries ≤ length new.desk.entries
+at-least lines old new s =
+    let g : Grows old.desk new.desk = grows lines old.desk new.desk s.answers s.records s.answered in
+    omega (arith, ap (length {A = Entry Call Reply}) g.is, length-append old.desk.entries g.more)
+
+-- so do the tables
+pub same-tables : (lines : List (List ℕ)) (old new : Stand) → Settles lines old new → new.desk.tables ≡ old.desk.tables
+same-tables lines old new s =
+    let g : Grows old.desk new.desk = grows lines old.desk new.desk s.answers s.records s.answered in
+    g.same

@@ -18,18 +18,17 @@ use Rattle.mrp_words.specs.Folder.{Known}
 use Rattle.mrp_commands.specs.Refusal.{TellsFault, TellsOpening, end_of_read}
 use Rattle.mrp_commands.specs.declared.ending.Ending.{Ending}
 use Rattle.mrp_commands.specs.declared.ending.Ending.TheVariants as ending
-use Rattle.mrp_open.specs.Start.{FailsToOpen, HasFound, HasOtherSum, IsTooLong}
-use Rattle.mrp_open.specs.declared.finding.Found.{Found}
+use Rattle.mrp_open.specs.Start.{FailsToOpen, HasOtherSum, IsTooLong, TellsRefused}
 
 -- a folder could not be read
 pub fails-read : (known : Known) (folder : List ℕ) (fault : ReadFault) (end : Ending) → end ≡ end_of_read fault → (fault ≡ read.Read → IsTooLong known folder) → FailsToOpen known folder end
 fails-read known folder read.Read end is past = inr (inl (is, past refl))
 fails-read known folder read.NoMemory end is past = inr (inr is)
 
--- its bundle was refused
-pub fails-open : (known : Known) (folder : List ℕ) (found : Found) (bundle : List ℕ) (fault : OpenFault) (end : Ending) → HasFound known folder found bundle → Opens bundle (Err fault) → TellsOpening fault end → FailsToOpen known folder end
-fails-open known folder found bundle (opening.Refused f) end has opens tells = inl (found, bundle, has, f, opens.0, tells)
-fails-open known folder found bundle opening.NoMemory end has opens tells = inr (inr tells)
+-- a bundle was refused
+pub tells-refused : (bundle : List ℕ) (fault : OpenFault) (end : Ending) → Opens bundle (Err fault) → TellsOpening fault end → TellsRefused bundle end
+tells-refused bundle (opening.Refused f) end opens tells = inl (f, opens.0, tells)
+tells-refused bundle opening.NoMemory end opens tells = inr tells
 
 -- a file of the sum could not be read
 pub sum-unread : (known : Known) (folder : List ℕ) (records : ℕ) (sum : List ℕ) (fault : ReadFault) (end : Ending) → end ≡ end_of_read fault → HasOtherSum known folder records sum end

@@ -46,6 +46,20 @@ pub record HandsMore (old new : History) (told_old told_new : Option (List ℕ))
   pub is : new ≡ old ++ more
   pub handed : HandsOverAll more told_old told_new
 
+-- lines were settled, and then their runs were told
+pub record SettlesRuns (lines : List (List ℕ)) (old new : Stand) (told_old told_new : Option (List ℕ)) : Type 0 where
+  pub settled : Settles lines old new
+  pub handed : HandsMore old.desk.entries new.desk.entries told_old told_new
+
+-- why a batch is not settled
+abbrev pub IsBatchEnd : Ending → Type 0
+IsBatchEnd end = (end ≡ ending.NoMemory) ⊎ (end ≡ ending.Write)
+
+-- lines were not settled
+pub record Fails (lines : List (List ℕ)) (old new : Stand) (end : Ending) : Type 0 where
+  pub stopped : Stops lines old new
+  pub ends : IsBatchEnd end
+
 -- the lines that were to come, behind what was read of the first, were these and those that are still to come, as far as
 -- that is known
 abbrev pub BringsLines : List ℕ → Option (List ℕ) → List (List ℕ) → List ℕ → Option (List ℕ) → Type 0
@@ -57,8 +71,7 @@ BringsLines begun (Some before) lines next (Some after) = told_lines (begun ++ b
 pub record Advances (begun : List ℕ) (given : Option (List ℕ)) (next : List ℕ) (left : Option (List ℕ)) (old new : Stand) (told_old told_new : Option (List ℕ)) : Type 0 where
   pub lines : List (List ℕ)
   pub brings : BringsLines begun given lines next left
-  pub settled : Settles lines old new
-  pub handed : HandsMore old.desk.entries new.desk.entries told_old told_new
+  pub settles : SettlesRuns lines old new told_old told_new
 
 -- why an order desk that was open ends
 abbrev pub IsServingEnd : Ending → Type 0
@@ -80,8 +93,7 @@ pub record Serves (given : Option (List ℕ)) (old new : Stand) (told_old told_n
   pub more : List (List ℕ)
   pub rest : List (List ℕ)
   pub between : Stand
-  pub settled : Settles lines old between
-  pub handed : HandsMore old.desk.entries between.desk.entries told_old told_new
+  pub settles : SettlesRuns lines old between told_old told_new
   pub stopped : Stops more between new
   pub given_are : IfSome given (λ text. told_lines text ≡ lines ++ (more ++ rest))
   pub all : end ≡ ending.Done → (more ≡ []) × (rest ≡ []) × (new ≡ between)

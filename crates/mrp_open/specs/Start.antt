@@ -71,9 +71,13 @@ abbrev pub IsTooLong : Known → List ℕ → Type 0
 IsTooLong known folder =
     HasTooMuch known folder ⊎ ((parts others : List Part) × (script : List ℕ) × AreParts known folder parts × IsSplit parts others script × (GREATEST_BUNDLE < length (bundle_with others script)))
 
--- a folder's bundle is refused, and the end tells its fault
+-- a bundle is refused, and the end tells its fault; or there was no memory
+abbrev pub TellsRefused : List ℕ → Ending → Type 0
+TellsRefused bundle end = ((f : Fault) × IsRefused bundle f × TellsFault f end) ⊎ (end ≡ ending.NoMemory)
+
+-- a folder's bundle is refused
 abbrev pub IsRefusedStart : Known → List ℕ → Ending → Type 0
-IsRefusedStart known folder end = (found : Found) × (bundle : List ℕ) × HasFound known folder found bundle × (f : Fault) × IsRefused bundle f × TellsFault f end
+IsRefusedStart known folder end = (found : Found) × (bundle : List ℕ) × HasFound known folder found bundle × TellsRefused bundle end
 
 -- the shop of a folder's bundle cannot be opened
 abbrev pub FailsToOpen : Known → List ℕ → Ending → Type 0

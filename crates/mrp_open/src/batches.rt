@@ -9,15 +9,15 @@ ghost use Rattle.mrp_commands.specs.declared.ending.Ending.TheVariants as ending
 ghost use Rattle.mrp_runs.specs.File.{IsRun};
 ghost use Rattle.mrp_runs.specs.declared.run.Run.{Run};
 ghost use Rattle.mrp_open.specs.Runs.{HandsOver, HandsOverAll, IsRunOf, with_front};
-ghost use Rattle.mrp_open.specs.Served.{Advances, Serves, Settles, Stops, StopsAt};
+ghost use Rattle.mrp_open.specs.Served.{Advances, Fails, Serves, Settles, SettlesRuns, Stops, StopsAt};
 
-use mrp_book::{Call, Entry, Reply};
+use mrp_book::{Call, Entry, Reply, Snapshot};
 use mrp_calls::OpenDesk;
 use mrp_commands::Ending;
 use mrp_intake::Intake;
 use mrp_journal::{Store, settle};
 use mrp_qty::NoMemory;
-use mrp_rows::Told;
+use mrp_rows::{Told, WriteFault};
 use mrp_runs::Run;
 use std::alloc::Global;
 use std::io::{Read, Write};
@@ -44,19 +44,25 @@ pub trait RunTaker {
         ensures { told self.new ≡ told self.old };
 }
 
+// Hands over a run.
+pub(crate) fn hand_run<T: RunTaker>(desk: u64, snapshot: &Snapshot, taker: &mut T)
+    requires { T.takes (record { desk = desk; snapshot = snapshot.now }) }
+    ensures { T.told taker.new ≡ with_front snapshot.now.front (T.told taker.old) }
+{
+    match snapshot.copy() {
+        Ok(snapshot) => taker.take(Run { desk, snapshot }),
+        Err(NoMemory) => taker.miss(snapshot.front()),
+    }
+}
+
 // Hands over an entry, if it is a run.
 fn hand_entry<T: RunTaker>(entry: &Entry<Call, Reply>, taker: &mut T)
     requires { IsRunOf T.takes entry.now }
     ensures { HandsOver entry.now.reply (T.told taker.old) (T.told taker.new) }
 {
-    if let Reply::Taken(snapshot) = &entry.reply {
-        match snapshot.copy() {
-            Ok(snapshot) => taker.take(Run {
-                desk: entry.who,
-                snapshot,
-            }),
-            Err(NoMemory) => taker.miss(snapshot.front()),
-        }
+    match &entry.reply {
+        Reply::Taken(snapshot) => hand_run(entry.who, snapshot, taker),
+        _ => {}
     }
 }
 
@@ -94,19 +100,45 @@ fn answer_batch<S: Store, W: Write>(
         (record { desk = desk.new; journal = S.held journal.new; output = W.contents (inner_of output.new) })) }
     ensures end { IfErr result (λ end. (end ≡ ending.NoMemory) ⊎ (end ≡ ending.Write)) }
 {
-    if desk
-        .answer(batch, &mut texts.answers, &mut texts.records)
-        .is_err()
-    {
-        return Err(Ending::NoMemory);
-    }
-    match settle(journal, &texts.records, &texts.answers, output) {
-        Ok(()) => Ok(()),
-        Err(_) => Err(Ending::Write),
+    match desk.answer(batch, &mut texts.answers, &mut texts.records) {
+        Ok(()) => match settle(journal, &texts.records, &texts.answers, output) {
+            Ok(()) => Ok(()),
+            Err(WriteFault) => Err(Ending::Write),
+        },
+        Err(NoMemory) => Err(Ending::NoMemory),
     }
 }
 
-// Reads a batch, answers it, settles it, and hands over its runs. Returns why no batch follows.
+// Answers a batch, settles it, and hands over its runs. Returns why it is not settled.
+fn settle_batch<S: Store, W: Write, T: RunTaker>(
+    desk: &mut OpenDesk<'_>,
+    batch: &[u8],
+    texts: &mut Texts,
+    journal: &mut S,
+    output: &mut Told<W>,
+    taker: &mut T,
+) -> Option<Ending>
+    requires settled { IfSome (S.held journal.old) IsSettled }
+    requires taken { (run : Run) → IsRun desk.old.tables run → T.takes run }
+    ensures { MatchOption result
+        (SettlesRuns (told_lines batch.now)
+        (record { desk = desk.old; journal = S.held journal.old; output = W.contents (inner_of output.old) })
+        (record { desk = desk.new; journal = S.held journal.new; output = W.contents (inner_of output.new) }) (T.told taker.old) (T.told taker.new))
+        (λ end. Fails (told_lines batch.now)
+        (record { desk = desk.old; journal = S.held journal.old; output = W.contents (inner_of output.old) })
+        (record { desk = desk.new; journal = S.held journal.new; output = W.contents (inner_of output.new) }) end × (T.told taker.new ≡ T.told taker.old)) }
+{
+    let before = desk.entries().len();
+    match answer_batch(desk, batch, texts, journal, output) {
+        Ok(()) => {
+            hand_over(&desk.entries()[before..], taker);
+            None
+        }
+        Err(end) => Some(end),
+    }
+}
+
+// Reads a batch, and settles it. Returns why no batch follows.
 fn serve_batch<S: Store, R: Read, W: Write, T: RunTaker>(
     desk: &mut OpenDesk<'_>,
     intake: &mut Intake,
@@ -127,16 +159,10 @@ fn serve_batch<S: Store, R: Read, W: Write, T: RunTaker>(
         (record { desk = desk.new; journal = S.held journal.new; output = W.contents (inner_of output.new) }) end × (T.told taker.new ≡ T.told taker.old)) }
 {
     match intake.next_batch(input) {
-        Ok(true) => {}
-        Ok(false) => return Some(Ending::Done),
-        Err(fault) => return Some(Ending::of_read(fault)),
+        Ok(true) => settle_batch(desk, intake.batch(), texts, journal, output, taker),
+        Ok(false) => Some(Ending::Done),
+        Err(fault) => Some(Ending::of_read(fault)),
     }
-    let before = desk.entries().len();
-    if let Err(end) = answer_batch(desk, intake.batch(), texts, journal, output) {
-        return Some(end);
-    }
-    hand_over(&desk.entries()[before..], taker);
-    None
 }
 
 /// Answers the lines of an input, batch by batch, until it ends or something fails, and hands over the runs of each
@@ -162,9 +188,9 @@ pub fn serve<S: Store, R: Read, W: Write, T: RunTaker>(
         records: Vec::new(alloc),
     };
     for _ in 0..u64::MAX {
-        let end = serve_batch(desk, &mut intake, &mut texts, journal, input, output, taker);
-        if let Some(end) = end {
-            return end;
+        match serve_batch(desk, &mut intake, &mut texts, journal, input, output, taker) {
+            Some(end) => return end,
+            None => {}
         }
     }
     Ending::Read

@@ -10,6 +10,7 @@ ghost use Rattle.mrp_engine.specs.declared.day.run.TheConstants.{MOST_WORKERS};
 ghost use Rattle.mrp_words.specs.Folder.{IsThere, nothing_known};
 ghost use Rattle.mrp_calls.specs.Desk.{Desk};
 ghost use Rattle.mrp_commands.specs.declared.ending.Ending.TheVariants as ending;
+ghost use Rattle.mrp_book.specs.declared.reply.Reply.TheVariants as reply;
 ghost use Rattle.mrp_runs.specs.File.{IsRun, run_name};
 ghost use Rattle.mrp_runs.specs.declared.run.Run.{Run};
 ghost use Rattle.mrp_open.specs.Ends.{DeskEnds, FailsToStart, IsServed, IsUnbegun, ServesOn, TellsEnd};
@@ -17,7 +18,7 @@ ghost use Rattle.mrp_open.specs.Runs.{HandsAllMissing, HandsMissing, IsRunOf};
 ghost use Rattle.mrp_open.specs.Served.{Serves};
 ghost use Rattle.mrp_open.specs.Start.{AnswersJournal, TakesNoMore};
 
-use crate::batches::{RunTaker, serve};
+use crate::batches::{RunTaker, hand_run, serve};
 use crate::disk::{LockFault, has_file, hold_streams, lock_folder};
 use crate::handing::{Given, RunKind, RunSender, make_all};
 use crate::opening::{begin_journal, cut_number, tell_cut};
@@ -31,7 +32,7 @@ use mrp_folder::{DiskFolder, SealedJournal};
 use mrp_journal::{JournalFile, Store};
 use mrp_qty::NoMemory;
 use mrp_rows::Told;
-use mrp_runs::{Run, RunMaker, run_name};
+use mrp_runs::{RunMaker, run_name};
 use mrp_words::FileStore;
 use std::alloc::Global;
 use std::fs::File;
@@ -58,24 +59,23 @@ fn has_run<F: FileStore>(
     has_file(files, alloc, folder, &name)
 }
 
-// A run to be made, if its file is not there.
-fn missing_run<F: FileStore>(
+// Hands over a run whose file is not there.
+fn hand_missing_run<F: FileStore, T: RunTaker>(
     files: &F,
     alloc: Global,
     folder: &str,
     desk: u64,
     snapshot: &Snapshot,
-) -> Result<Option<Run>, NoMemory>
-    ensures run { IfOk result (λ run. IfSome run (λ r. r ≡ record { desk = desk; snapshot = snapshot.now })) }
-    ensures there { result ≡ Ok None → IsThere (F.known files.now) (path_join folder.now (run_name snapshot.now.front)) true }
+    taker: &mut T,
+)
+    requires { T.takes (record { desk = desk; snapshot = snapshot.now }) }
+    ensures { HandsMissing (F.known files.now) folder.now (reply.Taken snapshot.now) (T.told taker.old) (T.told taker.new) }
 {
-    if has_run(files, alloc, folder, snapshot.front())? {
-        return Ok(None);
+    match has_run(files, alloc, folder, snapshot.front()) {
+        Ok(true) => {}
+        Ok(false) => hand_run(desk, snapshot, taker),
+        Err(NoMemory) => taker.miss(snapshot.front()),
     }
-    Ok(Some(Run {
-        desk,
-        snapshot: snapshot.copy()?,
-    }))
 }
 
 // Hands over an entry, if it is a run whose file is not there.
@@ -89,12 +89,11 @@ fn hand_missing<F: FileStore, T: RunTaker>(
     requires { IsRunOf T.takes entry.now }
     ensures { HandsMissing (F.known files.now) folder.now entry.now.reply (T.told taker.old) (T.told taker.new) }
 {
-    if let Reply::Taken(snapshot) = &entry.reply {
-        match missing_run(files, alloc, folder, entry.who, snapshot) {
-            Ok(Some(run)) => taker.take(run),
-            Ok(None) => {}
-            Err(NoMemory) => taker.miss(snapshot.front()),
+    match &entry.reply {
+        Reply::Taken(snapshot) => {
+            hand_missing_run(files, alloc, folder, entry.who, snapshot, taker)
         }
+        _ => {}
     }
 }
 
@@ -287,7 +286,7 @@ fn open_locked<
 // An order desk on a folder, which is locked first.
 //
 // Errors: how it ends, where it answers nothing; it is not told then.
-fn open_folder<
+fn open_named<
     R: Alloc + Eprint + Files<File = File> + Threads + Wait + Sync,
     I: Read,
     W: Write,
@@ -314,6 +313,37 @@ fn open_folder<
     }
 }
 
+// The same, with the numbers of closed streams taken, so that no file of the folder gets one.
+fn open_folder<
+    R: Alloc + Eprint + Files<File = File> + Threads + Wait + Sync,
+    I: Read,
+    W: Write,
+    E: Write,
+>(
+    rt: &R,
+    alloc: Global,
+    folder: &str,
+    workers: usize,
+    input: &mut Told<I>,
+    output: &mut Told<W>,
+    errors: &mut Told<E>,
+) -> Result<Ending, Ending>
+    requires { IsInRange 1 MOST_WORKERS workers }
+    ensures served { IfOk result (IsServed nothing_known folder.now I.remaining W.contents input.old output.old output.new) }
+    ensures told { IfOk result (TellsEnd E.contents errors.old errors.new) }
+    ensures unbegun { IfErr result (FailsToStart nothing_known folder.now) }
+    ensures same { OnErr result ((input.new ≡ input.old) × (output.new ≡ output.old) × (errors.new ≡ errors.old)) }
+{
+    match hold_streams(rt) {
+        Ok(held) => {
+            let end = open_named(rt, alloc, folder, workers, input, output, errors);
+            drop(held);
+            end
+        }
+        Err(_) => Err(Ending::Read),
+    }
+}
+
 /// Opens an order desk on a folder, answers the lines of an input until it ends, and returns how that ended, which
 /// was told on the error stream. It has 1 to 64 workers to plan runs, as the caller guarantees.
 pub fn open_desk<
@@ -334,14 +364,7 @@ pub fn open_desk<
     ensures ends { DeskEnds nothing_known folder.now I.remaining W.contents input.old input.new output.old output.new result }
     ensures told { TellsEnd E.contents errors.old errors.new result }
 {
-    let held = hold_streams(rt);
-    let opened = if held.is_ok() {
-        open_folder(rt, alloc, folder, workers, input, output, errors)
-    } else {
-        Err(Ending::Read)
-    };
-    drop(held);
-    match opened {
+    match open_folder(rt, alloc, folder, workers, input, output, errors) {
         Ok(end) => end,
         Err(end) => {
             let _ = end.tell(errors);

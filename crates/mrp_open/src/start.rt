@@ -1,13 +1,14 @@
 //! The start of a desk, up to the first change of its folder.
 
-ghost use Rattle.std.specs.Prelude.{◌≡◌, ◌⊎◌, Some, None, true, false, IfErr, IfOk, IsTrue, OnOk};
+ghost use Rattle.std.specs.Prelude.{◌≡◌, ◌⊎◌, Some, None, true, false, IfErr, IfOk, IsTrue, OnOk, option_map};
 ghost use Rattle.std.specs.Path.{path_buf_bytes};
 ghost use Rattle.mrp_rows.specs.declared.fault.Table.TheVariants as t;
 ghost use Rattle.mrp_rows.specs.Next.{columns_fault};
 ghost use Rattle.mrp_words.specs.Folder.{IsAt};
 ghost use Rattle.mrp_commands.specs.Refusal.{TellsFault};
 ghost use Rattle.mrp_commands.specs.declared.ending.Ending.TheVariants as ending;
-ghost use Rattle.mrp_open.specs.Start.{AnswersJournal, FailsToOpen, HasOtherSum, IsPrepared, TakesNoMore, sum_path};
+ghost use Rattle.mrp_open.specs.Start.{AnswersJournal, FailsToOpen, HasOtherSum, IsPrepared, TakesNoMore, TellsRefused, sum_path};
+ghost use Rattle.mrp_script.specs.Opened.{IsAccepted};
 
 use crate::finding::{Found, find};
 use mrp_bill::Shop;
@@ -16,7 +17,7 @@ use mrp_commands::Ending;
 use mrp_item::ShopRows;
 use mrp_qty::NoMemory;
 use mrp_rows::faults::COLUMNS;
-use mrp_rows::{Fault, Table, fault_text};
+use mrp_rows::{Fault, ReadFault, Table, fault_text};
 use mrp_script::open_shop;
 use mrp_words::FileStore;
 use std::alloc::{AllocError, Global};
@@ -58,6 +59,23 @@ fn prepared_with(alloc: Global, found: Found, shop: Shop) -> Result<Prepared, En
     }
 }
 
+// Opens the shop of what a folder has, whose bundle this is.
+fn open_found(
+    rt: &impl Threads,
+    alloc: Global,
+    found: Found,
+    bundle: &[u8],
+) -> Result<Prepared, Ending>
+    ensures found { IfOk result (λ prepared. prepared.found ≡ found) }
+    ensures accepted { IfOk result (λ prepared. IsAccepted bundle.now prepared.rows.value.tables) }
+    ensures refused { IfErr result (TellsRefused bundle.now) }
+{
+    match open_shop(rt, alloc, bundle) {
+        Ok(shop) => prepared_with(alloc, found, shop),
+        Err(fault) => Err(Ending::of_open(alloc, &fault)),
+    }
+}
+
 /// Reads the tables of a folder, and opens its shop.
 ///
 /// Errors: how the desk ends.
@@ -70,13 +88,9 @@ pub fn prepare<F: FileStore>(
     ensures prepared { IfOk result (λ prepared. IsPrepared (F.known files.now) folder.now prepared.found prepared.rows.value.tables) }
     ensures unopened { IfErr result (FailsToOpen (F.known files.now) folder.now) }
 {
-    let (found, bundle) = match find(files, alloc, folder) {
-        Ok(found) => found,
-        Err(fault) => return Err(Ending::of_read(fault)),
-    };
-    match open_shop(rt, alloc, &bundle) {
-        Ok(shop) => prepared_with(alloc, found, shop),
-        Err(fault) => Err(Ending::of_open(alloc, &fault)),
+    match find(files, alloc, folder) {
+        Ok((found, bundle)) => open_found(rt, alloc, found, &bundle),
+        Err(fault) => Err(Ending::of_read(fault)),
     }
 }
 
@@ -100,14 +114,16 @@ pub fn answer_journal(alloc: Global, prepared: &Prepared) -> Result<OpenDesk<'_>
     ensures takes { OnOk result (IsTrue prepared.now.found.takes_records) }
     ensures closed { IfErr result (TakesNoMore prepared.now.rows.value.tables prepared.now.found.takes_records) }
 {
-    let desk = match OpenDesk::open(alloc, prepared.rows.shop(), prepared.found.room) {
-        Ok(desk) => desk,
-        Err(NoMemory) => return Err(Ending::NoMemory),
-    };
-    if !prepared.found.takes_records {
-        return Err(no_more(alloc, desk.entries().len() as u32));
+    match OpenDesk::open(alloc, prepared.rows.shop(), prepared.found.room) {
+        Ok(desk) => {
+            if prepared.found.takes_records {
+                Ok(desk)
+            } else {
+                Err(no_more(alloc, desk.entries().len() as u32))
+            }
+        }
+        Err(NoMemory) => Err(Ending::NoMemory),
     }
-    Ok(desk)
 }
 
 // The path of the file that has the sum of a folder's tables.
@@ -115,6 +131,18 @@ fn sum_path(alloc: Global, folder: &str) -> Result<PathBuf, AllocError>
     ensures { IfOk result (λ path. path_buf_bytes path ≡ sum_path folder.now) }
 {
     Path::new(folder).join(alloc, SUM_NAME)
+}
+
+// The text of that file; `None` if there is no such file.
+fn read_sum<F: FileStore>(
+    files: &F,
+    alloc: Global,
+    folder: &str,
+) -> Result<Option<Vec<u8>>, ReadFault>
+    ensures { IfOk result (λ file. IsAt (F.known files.now) (sum_path folder.now) (option_map (λ bytes. bytes.items) file)) }
+{
+    let path = sum_path(alloc, folder)?;
+    files.read_file(alloc, path.as_str(), MOST_SUM)
 }
 
 /// Whether the sum of a folder's tables stands in it already: never before its first record.
@@ -134,10 +162,7 @@ pub fn is_sealed<F: FileStore>(
     if records == 0 {
         return Ok(false);
     }
-    let Ok(path) = sum_path(alloc, folder) else {
-        return Err(Ending::NoMemory);
-    };
-    match files.read_file(alloc, path.as_str(), MOST_SUM) {
+    match read_sum(files, alloc, folder) {
         Ok(Some(text)) => {
             if text.as_slice() == sum.as_bytes() {
                 Ok(true)
