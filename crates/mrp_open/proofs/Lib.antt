@@ -1,5 +1,5 @@
-pub mod Batches
-pub mod Finding
+pub mod Folders
 pub mod Runs
+pub mod Settled
 pub mod Starting
 pub mod Told

@@ -4,7 +4,7 @@ use Rattle.mrp_tables.specs.Tables.{Tables}
 use Rattle.mrp_intake.specs.Intake.{Taken}
 use Rattle.mrp_runs.specs.File.{IsRun}
 use Rattle.mrp_open.specs.Served.{Advances, Serves, Stand, StopsAt}
-use Rattle.mrp_open.proofs.Batches.{advances-both, advances-durable, advances-none, advances-tables, serves, stops-tired}
+use Rattle.mrp_open.proofs.Settled.{advances-both, advances-durable, advances-none, advances-tables, serves, stops-tired}
 use Rattle.mrp_open.proofs.batches.serve.Goals as goal
 
 pub serve_batch-end-requires : goal.serve_batch-end-requires
