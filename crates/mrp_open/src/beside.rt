@@ -23,7 +23,7 @@ use crate::disk::{LockFault, has_file, hold_streams, lock_folder};
 use crate::handing::{Given, RunKind, RunSender, make_all};
 use crate::opening::{begin_journal, cut_number, tell_cut};
 use crate::start::{Prepared, SUM_NAME, answer_journal, is_sealed, prepare};
-use crossbeam_channel::unbounded;
+use crossbeam_channel::{Receiver, unbounded};
 use mrp_book::{Call, Entry, Reply, Snapshot};
 use mrp_calls::OpenDesk;
 use mrp_commands::Ending;
@@ -196,6 +196,54 @@ fn serve_told<S: Store, I: Read, W: Write, E: Write, T: RunTaker>(
 
 // Answers calls, and makes the files of runs in a thread of their own, if one can be started, otherwise once the
 // input has ended. How it ends is told before the last runs are made.
+fn serve_and_make<
+    K: RunKind + Send,
+    S: Store,
+    R: Alloc + Eprint + Files + Threads + Wait + Sync,
+    I: Read,
+    W: Write,
+    E: Write,
+    T: RunTaker,
+>(
+    rt: &R,
+    alloc: Global,
+    folder: &str,
+    cut: Option<u64>,
+    maker: &mut RunMaker<'_>,
+    from: &Receiver<Given<K>>,
+    desk: &mut OpenDesk<'_>,
+    journal: &mut S,
+    input: &mut Told<I>,
+    output: &mut Told<W>,
+    errors: &mut Told<E>,
+    taker: &mut T,
+) -> Ending
+    requires given { (run : Run) → K.holds run → IsRun maker.old run }
+    requires settled { IfSome (S.held journal.old) IsSettled }
+    requires taken { (run : Run) → IsRun desk.old.tables run → T.takes run }
+    ensures served { Serves (I.remaining (inner_of input.old))
+        (record { desk = desk.old; journal = S.held journal.old; output = W.contents (inner_of output.old) })
+        (record { desk = desk.new; journal = S.held journal.new; output = W.contents (inner_of output.new) })
+        (T.told taker.old) (T.told taker.new) result }
+    ensures told { TellsEnd E.contents errors.old errors.new result }
+{
+    let mut beside = ||
+        requires { (run : Run) → K.holds run → IsRun maker.now run }
+    { make_all(rt, alloc, maker, from, folder) };
+    let mut here = || -> Ending
+        requires settled { IfSome (S.held journal.now) IsSettled }
+        requires taken { (run : Run) → IsRun desk.now.tables run → T.takes run }
+        ensures served { Serves (I.remaining (inner_of input.entry.now))
+            (record { desk = desk.entry.now; journal = S.held journal.entry.now; output = W.contents (inner_of output.entry.now) })
+            (record { desk = desk.exit.now; journal = S.held journal.exit.now; output = W.contents (inner_of output.exit.now) })
+            (T.told taker.entry.now) (T.told taker.exit.now) result }
+        ensures told { TellsEnd E.contents errors.entry.now errors.exit.now result }
+    { serve_told(alloc, cut, desk, journal, input, output, errors, taker) };
+    let ((), end) = thread::join_mut(rt, &mut beside, &mut here);
+    end
+}
+
+// Answers calls, and makes the files of runs beside that: first those of the journal that are not there.
 //
 // Errors: `NoMemory` if there is no memory for handing runs over; nothing was told then.
 fn serve_beside<
@@ -231,27 +279,20 @@ fn serve_beside<
     };
     let mut taker = RunSender::new(rt, to);
     hand_over_missing(rt, alloc, folder, desk.entries(), &mut taker);
-    let mut beside = ||
-        requires { (run : Run) → K.holds run → IsRun maker run }
-    { make_all(rt, alloc, &mut maker, &from, folder) };
-    let mut here = || -> Ending
-        requires { (run : Run) → IsRun desk.tables run → K.holds run }
-        ensures served { ServesOn I.remaining W.contents input.entry.now output.entry.now output.exit.now desk.entry desk.exit result }
-        ensures told { TellsEnd E.contents errors.entry.now errors.exit.now result }
-    {
-        serve_told(
-            alloc,
-            cut,
-            &mut desk,
-            &mut journal,
-            input,
-            output,
-            errors,
-            &mut taker,
-        )
-    };
-    let ((), end) = thread::join_mut(rt, &mut beside, &mut here);
-    Ok(end)
+    Ok(serve_and_make(
+        rt,
+        alloc,
+        folder,
+        cut,
+        &mut maker,
+        &from,
+        &mut desk,
+        &mut journal,
+        input,
+        output,
+        errors,
+        &mut taker,
+    ))
 }
 
 // An order desk on a folder that was locked.
