@@ -263,7 +263,7 @@ fn serve_beside<
 ) -> Result<Ending, Ending>
     requires given { (run : Run) → K.holds run → IsRun begun.maker run }
     requires taken { (run : Run) → IsRun begun.desk.tables run → K.holds run }
-    ensures served { IfOk result (λ end. (new : Desk) × ServesOn I.remaining W.contents input.old output.old output.new begun.desk new end) }
+    ensures served { IfOk result (λ end. (new : Desk) × ServesOn I.remaining W.contents input.old output.old output.new begun.entry.desk new end) }
     ensures told { IfOk result (TellsEnd E.contents errors.old errors.new) }
     ensures memory { IfErr result (λ end. end ≡ ending.NoMemory) }
     ensures same { OnErr result ((input.new ≡ input.old) × (output.new ≡ output.old) × (errors.new ≡ errors.old)) }
