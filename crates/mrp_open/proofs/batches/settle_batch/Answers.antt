@@ -43,7 +43,7 @@ slice_bounds-hand_over-start g c =
       ap (length {A = Entry Call Reply}) c.entries-before.ensures.entries,
       ap (length {A = Entry Call Reply}) c.entries.ensures.entries,
     ) in
-    search (rules, within)
+    within
 
 pub hand_over-requires : goal.hand_over-requires
 hand_over-requires g c =
