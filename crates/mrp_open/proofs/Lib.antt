@@ -1,3 +1,4 @@
+pub mod Ended
 pub mod Folders
 pub mod Runs
 pub mod Settled

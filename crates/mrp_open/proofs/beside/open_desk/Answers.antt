@@ -1,5 +1,4 @@
 use Rattle.std.proofs.Common.{◌≡◌, inl, inr, subst}
-use Rattle.mrp_rows.specs.declared.told.Told.{Told}
 use Rattle.mrp_commands.specs.Telling.{words_of}
 use Rattle.mrp_open.specs.Ends.{IsTold}
 use Rattle.mrp_open.proofs.Told.{ends-told, is-told}
@@ -15,4 +14,4 @@ pub returns-in-Err-clause-told : goal.returns-in-Err-clause-told
 returns-in-Err-clause-told g c =
     let told = is-told g.E.Write.contents c.open_folder.new.errors c.tell.new.errors (words_of c.in-Err.end) c.tell.result c.tell.ensures.whole c.tell.ensures.front c.tell.ensures.gave_up in
     ends-told g.E.Write.contents c.args.errors.now c.tell.new.errors c.in-Err.end
-    (subst (λ (e : Told g.row.E). IsTold g.E.Write.contents e c.tell.new.errors (words_of c.in-Err.end)) c.in-Err.ensures.same.2 told)
+    (subst (λ e. IsTold g.E.Write.contents e c.tell.new.errors (words_of c.in-Err.end)) c.in-Err.ensures.same.2 told)
