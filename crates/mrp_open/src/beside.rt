@@ -197,7 +197,7 @@ fn serve_told<S: Store, I: Read, W: Write, E: Write, T: RunTaker>(
 // Answers calls, and makes the files of runs in a thread of their own, if one can be started, otherwise once the
 // input has ended. How it ends is told before the last runs are made.
 fn serve_and_make<
-    K: RunKind + Send,
+    K: RunKind + Send + Sync,
     S: Store,
     R: Alloc + Eprint + Files + Threads + Wait + Sync,
     I: Read,
@@ -247,7 +247,7 @@ fn serve_and_make<
 //
 // Errors: `NoMemory` if there is no memory for handing runs over; nothing was told then.
 fn serve_beside<
-    K: RunKind + Send,
+    K: RunKind + Send + Sync,
     R: Alloc + Eprint + Files + Threads + Wait + Sync,
     I: Read,
     W: Write,

@@ -36,7 +36,7 @@ impl RunKind for Brand {
 pub struct Given<K: RunKind> {
     run: Run,
     of: PhantomData<K>,
-    ghost is: { K.holds run },
+    ghost is: { ∥ K.holds run ∥₁ },
 }
 
 /// Sends runs to the thread that makes their files.

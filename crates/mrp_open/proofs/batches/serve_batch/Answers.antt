@@ -30,9 +30,11 @@ returns-in-Ok-false g c =
     let old : Stand = record { desk = c.args.desk.now; journal = g.S.Store.held c.args.journal.now; output = g.W.Write.contents (inner_of c.args.output.now) } in
     let is = c.in-Ok-false.is in
     let test = c.in-Ok-false.field-0-test in
-    let end = c.next_batch.ensures.end (cc) in
-    (stops-done c.args.intake.now c.next_batch.new.self (g.R.Read.remaining (inner_of c.args.input.now)) (g.R.Read.remaining (inner_of c.next_batch.new.reader)) old
-    c.in-Ok-false.ensures.brings end.0 end.1 end.2, refl)
+    let end = c.next_batch.ensures.end (cc) in (
+      stops-done c.args.intake.now c.next_batch.new.self (g.R.Read.remaining (inner_of c.args.input.now)) (g.R.Read.remaining (inner_of c.next_batch.new.reader)) old
+          c.in-Ok-false.ensures.brings end.0 end.1 end.2,
+      refl,
+    )
 
 pub returns-in-Err : goal.returns-in-Err
 returns-in-Err g c =
