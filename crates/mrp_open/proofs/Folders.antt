@@ -82,33 +82,33 @@ eight = t.Calendar ∷ t.Items ∷ t.Centres ∷ t.Stock ∷ t.Receipts ∷ t.Bi
 no-scripts : All (λ (table : Table). table ≢ t.Script) eight
 no-scripts =
     let Other : Table → Type 0 = λ table. table ≢ t.Script in
-    All-cons Other t.Calendar _ (λ e. cc)
-    (All-cons Other t.Items _ (λ e. cc)
-    (All-cons Other t.Centres _ (λ e. cc)
-    (All-cons Other t.Stock _ (λ e. cc)
-    (All-cons Other t.Receipts _ (λ e. cc)
-    (All-cons Other t.Bills _ (λ e. cc)
-    (All-cons Other t.Routings _ (λ e. cc)
-    (All-cons Other t.Master _ (λ e. cc) (All-nil Other))))))))
+    All-cons Other t.Calendar (t.Items ∷ t.Centres ∷ t.Stock ∷ t.Receipts ∷ t.Bills ∷ t.Routings ∷ t.Master ∷ []) (λ e. cc)
+    (All-cons Other t.Items (t.Centres ∷ t.Stock ∷ t.Receipts ∷ t.Bills ∷ t.Routings ∷ t.Master ∷ []) (λ e. cc)
+    (All-cons Other t.Centres (t.Stock ∷ t.Receipts ∷ t.Bills ∷ t.Routings ∷ t.Master ∷ []) (λ e. cc)
+    (All-cons Other t.Stock (t.Receipts ∷ t.Bills ∷ t.Routings ∷ t.Master ∷ []) (λ e. cc)
+    (All-cons Other t.Receipts (t.Bills ∷ t.Routings ∷ t.Master ∷ []) (λ e. cc)
+    (All-cons Other t.Bills (t.Routings ∷ t.Master ∷ []) (λ e. cc)
+    (All-cons Other t.Routings (t.Master ∷ []) (λ e. cc)
+    (All-cons Other t.Master [] (λ e. cc) (All-nil Other))))))))
 
 folder-parted : (known : Known) (folder : List ℕ) (parts : List Part) → AreParts known folder parts → Parted parts
 folder-parted known folder parts are = subst Parted (sym are.is) (parted eight no-scripts are.files are.are.tables_are)
 
 -- the script was taken from the end
 split-taken : (old new : List Part) (script : List ℕ) (front : List Part) (last : Option (List ℕ)) → All NoScript front → old ≡ front ++ script_part last → old ≡ new ++ (t.Script, script) ∷ [] → IsSplit old new script
-split-taken old new script front None no is taken =
+split-taken old new script front None without is taken =
     let same : front ≡ new ++ (t.Script, script) ∷ [] = sym (append-nil front) ∙ sym is ∙ taken in
-    absurd (all-last NoScript new (t.Script, script) (subst (All NoScript) same no) refl)
-split-taken old new script front (Some bytes) no is taken =
+    absurd (all-last NoScript new (t.Script, script) (subst (All NoScript) same without) refl)
+split-taken old new script front (Some bytes) without is taken =
     let same = last-same front new (t.Script, bytes) (t.Script, script) (sym is ∙ taken) in
-    record { no_script = subst (All NoScript) same.0 no; is = inl taken }
+    record { no_script = subst (All NoScript) same.0 without; is = inl taken }
 
 -- there is none
 split-none : (old new : List Part) (script : List ℕ) (front : List Part) (last : Option (List ℕ)) → All NoScript front → old ≡ front ++ script_part last → new ≡ old → script ≡ [] → EndsWithout old → IsSplit old new script
-split-none old new script front None no is same empty ends =
-    record { no_script = subst (All NoScript) (sym (append-nil front) ∙ sym is ∙ sym same) no; is = inr (sym same, empty) }
-split-none old new script front (Some bytes) no is same empty (inl none) = absurd (no-last front (t.Script, bytes) (sym none ∙ is))
-split-none old new script front (Some bytes) no is same empty (inr (f, part, behind, other)) =
+split-none old new script front None without is same empty ends =
+    record { no_script = subst (All NoScript) (sym (append-nil front) ∙ sym is ∙ sym same) without; is = inr (sym same, empty) }
+split-none old new script front (Some bytes) without is same empty (inl none) = absurd (no-last front (t.Script, bytes) (sym none ∙ is))
+split-none old new script front (Some bytes) without is same empty (inr (f, part, behind, other)) =
     let both = last-same front f (t.Script, bytes) part (sym is ∙ behind) in
     absurd (other (ap (λ (p : Part). p.0) (sym both.1)))
 
