@@ -21,4 +21,4 @@ module _ {E T X : Type 0} (contents : E → Option (List ℕ)) where
 module _ {E : Type 0} (contents : E → Option (List ℕ)) where
   -- nothing was cut off
   pub ends-told : (old new : Told E) (end : Ending) → IsTold contents old new (words_of end) → TellsEnd contents old new end
-  ends-told old new end told = (None, old, inl (all-none contents old), told)
+  ends-told old new end told = (None, (old, inl (all-none contents old), told))

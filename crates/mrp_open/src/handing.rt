@@ -100,7 +100,7 @@ fn make_one<R: Alloc + Eprint + Files + Threads + Wait + Sync>(
     files: &mut DiskFolder<'_, R>,
     notes: &mut Told<Notes<'_, R>>,
 )
-    requires { IsRun maker.old run.now }
+    requires { ∥ IsRun maker.old run.now ∥₁ }
     ensures { maker.new ≡ maker.old }
 {
     let made = maker.make(rt, alloc, run, files);
