@@ -21,6 +21,7 @@ ghost use Rattle.mrp_open.specs.Start.{AnswersJournal, TakesNoMore};
 use crate::batches::{RunTaker, hand_run, serve};
 use crate::disk::{LockFault, has_file, hold_streams, lock_folder};
 use crate::handing::{Given, RunKind, RunSender, make_all};
+use crate::notes::Notes;
 use crate::opening::{begin_journal, cut_number, tell_cut};
 use crate::start::{Prepared, SUM_NAME, answer_journal, is_sealed, prepare};
 use crossbeam_channel::{Receiver, unbounded};
@@ -28,7 +29,7 @@ use mrp_book::{Call, Entry, Reply, Snapshot};
 use mrp_calls::OpenDesk;
 use mrp_commands::Ending;
 use mrp_engine::MOST_WORKERS;
-use mrp_folder::{DiskFolder, SealedJournal};
+use mrp_folder::{DiskFolder, Folder, SealedJournal};
 use mrp_journal::{JournalFile, Store};
 use mrp_qty::NoMemory;
 use mrp_rows::Told;
@@ -45,6 +46,9 @@ use std::thread::Threads;
 
 // The name that the file of the sum is begun with.
 const SUM_PART: &str = "desk.part";
+
+// The name that a run's file is begun with.
+const RUN_PART: &str = "run.part";
 
 // Whether the file of a run is there.
 fn has_run<F: FileStore>(
@@ -199,7 +203,9 @@ fn serve_told<S: Store, I: Read, W: Write, E: Write, T: RunTaker>(
 fn serve_and_make<
     K: RunKind + Send + Sync,
     S: Store,
-    R: Alloc + Eprint + Files + Threads + Wait + Sync,
+    R: Alloc + Threads + Wait + Sync,
+    D: Folder + Send,
+    N: Write + Send,
     I: Read,
     W: Write,
     E: Write,
@@ -207,10 +213,11 @@ fn serve_and_make<
 >(
     rt: &R,
     alloc: Global,
-    folder: &str,
     cut: Option<u64>,
     maker: &mut RunMaker<'_>,
     from: &Receiver<Given<K>>,
+    files: &mut D,
+    notes: &mut Told<N>,
     desk: &mut OpenDesk<'_>,
     journal: &mut S,
     input: &mut Told<I>,
@@ -229,7 +236,7 @@ fn serve_and_make<
 {
     let mut beside = ||
         requires { (run : Run) → K.holds run → IsRun maker.now run }
-    { make_all(rt, alloc, maker, from, folder) };
+    { make_all(rt, alloc, maker, from, files, notes) };
     let mut here = || -> Ending
         requires settled { IfSome (S.held journal.now) IsSettled }
         requires taken { (run : Run) → IsRun desk.now.tables run → T.takes run }
@@ -279,13 +286,16 @@ fn serve_beside<
     };
     let mut taker = RunSender::new(rt, to);
     hand_over_missing(rt, alloc, folder, desk.entries(), &mut taker);
+    let mut files = DiskFolder::new(rt, alloc, folder, RUN_PART);
+    let mut notes = Told::new(Notes { rt });
     Ok(serve_and_make(
         rt,
         alloc,
-        folder,
         cut,
         &mut maker,
         &from,
+        &mut files,
+        &mut notes,
         &mut desk,
         &mut journal,
         input,

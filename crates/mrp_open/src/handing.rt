@@ -7,17 +7,14 @@ ghost use Rattle.mrp_runs.specs.declared.run.Run.{Run};
 use crate::batches::RunTaker;
 use crate::notes::Notes;
 use crossbeam_channel::{Receiver, Sender};
-use mrp_folder::DiskFolder;
+use mrp_folder::Folder;
 use mrp_rows::Told;
 use mrp_runs::{Note, Refusal, Run, RunMaker, tell_run};
 use std::alloc::Global;
+use std::io::Write;
 use std::marker::{Brand, PhantomData};
-use std::rt::Files;
 use std::sync::Wait;
 use std::thread::Threads;
-
-// The name that a run's file is begun with.
-const RUN_PART: &str = "run.part";
 
 /// Which runs are handed over: those of one shop.
 pub trait RunKind {
@@ -91,14 +88,14 @@ impl<'a, K: RunKind, R: Eprint + Wait> RunTaker for RunSender<'a, K, R> {
     }
 }
 
-// Makes the file of a run, and tells of it.
-fn make_one<R: Alloc + Eprint + Files + Threads + Wait + Sync>(
+// Makes the file of a run in a folder, and tells of it.
+fn make_one<R: Alloc + Threads + Wait + Sync, D: Folder, N: Write>(
     rt: &R,
     alloc: Global,
     maker: &mut RunMaker<'_>,
     run: &Run,
-    files: &mut DiskFolder<'_, R>,
-    notes: &mut Told<Notes<'_, R>>,
+    files: &mut D,
+    notes: &mut Told<N>,
 )
     requires { ∥ IsRun maker.old run.now ∥₁ }
     ensures { maker.new ≡ maker.old }
@@ -110,19 +107,18 @@ fn make_one<R: Alloc + Eprint + Files + Threads + Wait + Sync>(
 }
 
 /// Makes the files of runs in a folder, one after the other as they come, until there is no sender any more.
-pub fn make_all<K: RunKind, R: Alloc + Eprint + Files + Threads + Wait + Sync>(
+pub fn make_all<K: RunKind, R: Alloc + Threads + Wait + Sync, D: Folder, N: Write>(
     rt: &R,
     alloc: Global,
     maker: &mut RunMaker<'_>,
     from: &Receiver<Given<K>>,
-    folder: &str,
+    files: &mut D,
+    notes: &mut Told<N>,
 )
     requires { (run : Run) → K.holds run → IsRun maker.old run }
     ensures { maker.new ≡ maker.old }
 {
-    let mut files = DiskFolder::new(rt, alloc, folder, RUN_PART);
-    let mut notes = Told::new(Notes { rt });
     for given in from.iter(rt) {
-        make_one(rt, alloc, maker, &given.run, &mut files, &mut notes);
+        make_one(rt, alloc, maker, &given.run, files, notes);
     }
 }
