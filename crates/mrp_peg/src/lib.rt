@@ -4,6 +4,7 @@
 
 mod demand;
 pub mod laws;
+mod listing;
 mod matching;
 mod needs_left;
 mod next_orders;

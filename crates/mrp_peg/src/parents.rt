@@ -1,16 +1,17 @@
 //! What the orders of a parent require of an item.
 
-ghost use Rattle.std.specs.Prelude.{◌≡◌, ◌==◌, ◌≤◌, ◌<◌, ◌*◌, ◌++◌, ℕ, true, false, filter, length, map, nat_lt, All, IsTrue, OnOk};
+ghost use Rattle.std.specs.Prelude.{◌≡◌, ◌==◌, ◌≤◌, ◌<◌, ◌+◌, ◌*◌, ◌++◌, ℕ, List, true, false, filter, length, map, nat_lt, All, IsTrue, OnOk};
 ghost use Rattle.std.specs.List.{enumerate_from, slice_index_or};
 ghost use Rattle.std.specs.List.Sorted.{IsNonDecreasingBy, IsPartitionPoint};
 ghost use Rattle.mrp_qty.specs.Quantity.{greatest_quantity};
+ghost use Rattle.mrp_bill.specs.declared.groups.Numbered.{Numbered};
+ghost use Rattle.mrp_peg.specs.Placed.{GoesOn};
 ghost use Rattle.mrp_peg.specs.Rows.{order_requirement};
 ghost use Rattle.mrp_peg.specs.Weekly.{of_week};
 
+use crate::listing::Listing;
 use crate::matching::Requirement;
-use crate::ordering::with_week;
 use crate::peg::{Need, NeedKind};
-use mrp_bill::Numbered;
 use mrp_item::Order;
 use mrp_qty::NoMemory;
 
@@ -102,18 +103,18 @@ pub fn add_released(
     Ok(place)
 }
 
-// Adds the requirements that all orders of a parent make by a bill line, each with its week.
-pub fn add_all(
-    rows: &mut Vec<Numbered<Requirement>>,
+// Lists the requirements that all orders of a parent make by a bill line.
+pub fn list_all<L: Listing>(
+    listing: &mut L,
     item: usize,
     by: &UsedBy<'_>,
 ) -> Result<(), NoMemory>
     requires { All (λ order. order.start * by.now.per ≤ greatest_quantity) by.now.orders.now }
-    ensures { OnOk result (rows.new.items ≡ rows.old.items ++ map of_week (map (order_requirement item by.now.line by.now.per) (enumerate_from 1 by.now.orders.now))) }
+    ensures { OnOk result ((weeks : ℕ) (rows : List (Numbered Requirement)) (from : ℕ) → GoesOn rows from (map of_week (map (order_requirement item by.now.line by.now.per) (enumerate_from 1 by.now.orders.now))) → L.has listing.old weeks rows from → L.has listing.new weeks rows (from + length by.now.orders.now)) }
 {
     let orders = by.orders;
     for (place, order) in orders.iter().enumerate() {
-        rows.push(with_week(requirement_of(item, by, place + 1, order)))?;
+        listing.take(requirement_of(item, by, place + 1, order))?;
     }
     Ok(())
 }

@@ -1,13 +1,14 @@
 //! What the service rows of the master schedule require of a part.
 
-ghost use Rattle.std.specs.Prelude.{◌≡◌, ◌==◌, ◌∷◌, ◌++◌, [], filter, if◌then◌else◌, map, OnOk};
+ghost use Rattle.std.specs.Prelude.{◌≡◌, ◌==◌, ◌+◌, ◌∷◌, ◌++◌, ℕ, List, [], filter, length, if◌then◌else◌, map, OnOk};
+ghost use Rattle.mrp_bill.specs.declared.groups.Numbered.{Numbered};
+ghost use Rattle.mrp_peg.specs.Placed.{GoesOn};
 ghost use Rattle.mrp_peg.specs.Rows.{service_requirement};
 ghost use Rattle.mrp_peg.specs.Weekly.{of_week};
 
+use crate::listing::Listing;
 use crate::matching::Requirement;
-use crate::ordering::with_week;
 use crate::peg::{Need, NeedKind};
-use mrp_bill::Numbered;
 use mrp_item::Due;
 use mrp_qty::NoMemory;
 
@@ -54,16 +55,16 @@ pub fn add_services_in(
     Ok(())
 }
 
-// Adds the requirements of all service rows, each with its week.
-pub fn add_services(
-    rows: &mut Vec<Numbered<Requirement>>,
+// Lists the requirements of all service rows.
+pub fn list_services<L: Listing>(
+    listing: &mut L,
     item: usize,
     services: &[Due],
 ) -> Result<(), NoMemory>
-    ensures { OnOk result (rows.new.items ≡ rows.old.items ++ map of_week (map (service_requirement item) services.now)) }
+    ensures { OnOk result ((weeks : ℕ) (rows : List (Numbered Requirement)) (from : ℕ) → GoesOn rows from (map of_week (map (service_requirement item) services.now)) → L.has listing.old weeks rows from → L.has listing.new weeks rows (from + length services.now)) }
 {
     for service in services {
-        rows.push(with_week(requirement_of(item, service)))?;
+        listing.take(requirement_of(item, service))?;
     }
     Ok(())
 }
