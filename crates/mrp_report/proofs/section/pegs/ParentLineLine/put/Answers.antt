@@ -3,9 +3,6 @@ use Rattle.mrp_report.proofs.section.pegs.ParentLineLine.put.Goals as goal
 
 pub returns : goal.returns
 returns c =
-    put_then c.put_first-end.ensures.put
-    (put_then c.put-end.ensures.put
-    (put_then c.put_number-end.ensures.put
-    (put_then c.put-end-2.ensures.put
-    (put_then c.put-end-3.ensures.put
-    (put_then c.put_number-end-2.ensures.put c.put_byte.ensures)))))
+    put_then
+    (put_then (put_then (put_then (put_then (put_then c.put_first-end.ensures.put c.put-end.ensures.put) c.put_number-end.ensures.put) c.put-end-2.ensures.put) c.put-end-3.ensures.put) c.put_number-end-2.ensures.put)
+    c.put_byte.ensures

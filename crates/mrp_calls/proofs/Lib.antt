@@ -1,0 +1,4 @@
+pub mod LineCells
+pub mod Lines
+pub mod Entered
+pub mod Tried

@@ -1,0 +1,4 @@
+pub mod Answers
+pub mod CallRecord
+pub mod Desk
+pub mod LineCall
