@@ -1,13 +1,17 @@
 -- What is left of an item's requirements, supplies and pegs while they are matched.
-use Rattle.std.specs.Prelude.{ℕ, ◌≡◌, ◌+◌, ◌-◌, ◌++◌, List, [], ◌∷◌, Option, Some, None, map, drop, flat_map, nat_lt, if◌then◌else◌, slice_get}
+use Rattle.std.specs.Prelude.{ℕ, ◌≡◌, ◌+◌, ◌-◌, ◌<◌, ◌++◌, List, [], ◌∷◌, Option, Some, None, length, map, min, drop, flat_map, nat_lt, if◌then◌else◌, slice_get}
 use Rattle.std.specs.List.{range_with_len}
 use Rattle.mrp_item.specs.Inputs.{Inputs, horizon}
+use Rattle.std.specs.Option.{option_copied}
 use Rattle.mrp_item.specs.declared.supplies.Supplied.{Supplied}
+use Rattle.mrp_item.specs.declared.supplies.Supply.{Supply}
 use Rattle.mrp_peg.specs.declared.matching.Offered.{Offered}
+use Rattle.mrp_peg.specs.declared.matching.Requirement.{Requirement}
 use Rattle.mrp_peg.specs.declared.needs_left.NeedsLeft.{NeedsLeft}
 use Rattle.mrp_peg.specs.declared.part.Part.{Part}
 use Rattle.mrp_peg.specs.declared.peg.Need.{Need}
 use Rattle.mrp_peg.specs.declared.peg.Peg.{Peg}
+use Rattle.mrp_peg.specs.declared.peg.PegAt.{PegAt}
 use Rattle.mrp_peg.specs.declared.supplies_left.SuppliesLeft.{SuppliesLeft}
 use Rattle.mrp_peg.specs.declared.peg_walk.PegWalk.{PegWalk}
 use Rattle.mrp_peg.specs.Matching.{amounts_offered, amounts_required, peg_of}
@@ -63,3 +67,27 @@ IsNext pegs None left = (pegs ≡ []) × (left ≡ [])
 
 abbrev pub amount_of_offer : Offered → Amount Supplied
 amount_of_offer o = record { of = o.source; quantity = o.quantity }
+
+-- how many pieces a requirement and so many pieces of a supply have in common, or the supply has if nothing is required
+abbrev pub pieces_of : Option Requirement → ℕ → ℕ
+pieces_of None offered = offered
+pieces_of (Some requirement) offered = min requirement.quantity offered
+
+-- the same, of the first listed requirement
+abbrev pub first_pieces : PegWalk → ℕ → ℕ
+first_pieces w offered = pieces_of (slice_get w.needs.needs.items w.needs.place) offered
+
+-- the requirements and supplies that are left
+abbrev pub steps_left : PegWalk → ℕ
+steps_left w = length (required_left w.needs) + length (offered_left w.supplies)
+
+-- the first supply and the first requirement have pieces in common, or the supply has some and nothing more is required
+pub record IsAtPeg (w : PegWalk) : Type 0 where
+  pub filled : IsFilled w.needs
+  pub supply : Supply
+  pub first : slice_get w.supplies.supplies.items w.supplies.place ≡ Some supply
+  pub some : 0 < first_pieces w supply.quantity
+
+-- a peg of an item that a walk is at
+abbrev pub peg_at : ℕ → PegAt → Peg
+peg_at item at = record { item = item; need = option_copied at.need; supply = at.supply; quantity = at.quantity }

@@ -22,7 +22,7 @@ mod walking;
 mod where_used;
 
 pub use mrp_item::Supplied;
-pub use peg::{Cause, Need, NeedKind, Peg};
+pub use peg::{Cause, Need, NeedKind, Peg, PegAt};
 pub use peg_walk::PegWalk;
 pub use pegging::{item_pegs, pegs};
 pub use sourcing::sources;

@@ -2,7 +2,7 @@
 //! many.
 
 ghost use Rattle.std.specs.Prelude.{◌≡◌, ◌<◌, ◌≤◌, slice_get, IfOk, OnOk};
-ghost use Rattle.std.specs.Option.{option_map};
+ghost use Rattle.std.specs.Option.{option_copied, option_map};
 ghost use Rattle.mrp_item.specs.Inputs.{count};
 ghost use Rattle.mrp_peg.specs.Left.{IsFilled, listed_left, served, required_left};
 ghost use Rattle.mrp_peg.specs.Matching.{amount_required};
@@ -109,19 +109,26 @@ impl<'a> NeedsLeft<'a> {
         Ok(())
     }
 
-    // The first requirement, with what is left of it.
+    // Lists the requirements of the next week that has any once all listed ones are passed.
     //
     // Errors: `NoMemory` if an allocation fails.
     #[inline(always)]
-    pub fn first(&mut self) -> Result<Option<Requirement>, NoMemory>
+    pub fn fill_first(&mut self) -> Result<(), NoMemory>
         ensures left { OnOk result (required_left self.new ≡ required_left self.old) }
         ensures filled { OnOk result (IsFilled self.new) }
-        ensures first { IfOk result (λ first. option_map amount_required first ≡ slice_get (listed_left self.new) 0) }
     {
         if self.place >= self.needs.len() {
             self.fill()?;
         }
-        Ok(self.needs.get(self.place).copied())
+        Ok(())
+    }
+
+    // The first listed requirement, with what is left of it.
+    #[inline(always)]
+    pub fn listed_first(&self) -> Option<&Requirement>
+        ensures { option_map amount_required (option_copied result) ≡ slice_get (listed_left self.now) 0 }
+    {
+        self.needs.get(self.place)
     }
 
     // Takes pieces of the first listed requirement, and passes it once none are left.

@@ -104,11 +104,7 @@ pub fn add_released(
 }
 
 // Lists the requirements that all orders of a parent make by a bill line.
-pub fn list_all<L: Listing>(
-    listing: &mut L,
-    item: usize,
-    by: &UsedBy<'_>,
-) -> Result<(), NoMemory>
+pub fn list_all<L: Listing>(listing: &mut L, item: usize, by: &UsedBy<'_>) -> Result<(), NoMemory>
     requires { All (λ order. order.start * by.now.per ≤ greatest_quantity) by.now.orders.now }
     ensures { OnOk result ((weeks : ℕ) (rows : List (Numbered Requirement)) (from : ℕ) → GoesOn rows from (map of_week (map (order_requirement item by.now.line by.now.per) (enumerate_from 1 by.now.orders.now))) → L.has listing.old weeks rows from → L.has listing.new weeks rows (from + length by.now.orders.now)) }
 {

@@ -47,6 +47,17 @@ pub struct Peg {
     pub quantity: Qty,
 }
 
+/// A peg of an item, with its requirement where that is listed.
+#[derive(Clone, Copy)]
+pub struct PegAt<'a> {
+    /// The requirement; `None` for surplus.
+    pub need: Option<&'a Need>,
+    /// The supply.
+    pub supply: Supplied,
+    /// The pieces, at least 1.
+    pub quantity: Qty,
+}
+
 /// A cause of a requirement: what its sources end in when they are followed upwards (profile).
 #[derive(Clone, Copy, Debug, PartialEq, Eq, Hash)]
 pub enum Cause {

@@ -1,19 +1,19 @@
 //! The pegs of an item, one at a time.
 
-ghost use Rattle.std.specs.Prelude.{◌≡◌, ◌<◌, ◌≤◌, ◌+◌, ◌++◌, [], Some, length, slice_get, IfOk, OnOk};
-ghost use Rattle.std.specs.Option.{option_map};
+ghost use Rattle.std.specs.Prelude.{◌≡◌, ◌<◌, ◌≤◌, ◌+◌, ◌++◌, ◌∷◌, List, [], Some, false, length, slice_get, IfOk, IsTrue, OnOk};
+ghost use Rattle.std.specs.Option.{option_copied};
 ghost use Rattle.mrp_item.specs.Inputs.{count};
-ghost use Rattle.mrp_peg.specs.Left.{IsFilled, IsNext, amount_of_offer, listed_left, offered_left, pegs_between, pegs_left, shown, required_left};
+ghost use Rattle.mrp_peg.specs.Left.{IsAtPeg, IsFilled, IsNext, amount_of_offer, first_pieces, listed_left, offered_left, peg_at, pegs_between, pegs_left, pieces_of, shown, required_left, steps_left};
 ghost use Rattle.mrp_peg.specs.Matching.{amount_required};
 ghost use Rattle.mrp_peg.specs.Pegging.{pegs_of, requirements, supplies};
 ghost use Rattle.mrp_peg.specs.Units.{total};
 
 use crate::matching::{Offered, Requirement, lesser};
 use crate::needs_left::NeedsLeft;
-use crate::peg::Peg;
+use crate::peg::{Peg, PegAt};
 use crate::supplies_left::SuppliesLeft;
 use mrp_item::Plan;
-use mrp_qty::NoMemory;
+use mrp_qty::{NoMemory, Qty};
 use std::alloc::Global;
 
 // The peg of the first supply and the first requirement. The one that ends is passed, or both if they end
@@ -58,24 +58,16 @@ fn surplus(item: usize, needs: &NeedsLeft<'_>, supplies: &mut SuppliesLeft, offe
     }
 }
 
-// The next peg of what is left.
-fn next_peg(
-    item: usize,
-    needs: &mut NeedsLeft<'_>,
-    supplies: &mut SuppliesLeft,
-) -> Result<Option<Peg>, NoMemory>
-    ensures { IfOk result (λ peg. IsNext (pegs_between item (required_left needs.old) (offered_left supplies.old)) peg (pegs_between item (required_left needs.new) (offered_left supplies.new))) }
+// How many pieces the first supply and the first requirement have in common, or the supply has if nothing more
+// is required.
+#[inline(always)]
+fn pieces(requirement: Option<&Requirement>, offered: Qty) -> Qty
+    ensures { result ≡ pieces_of (option_copied requirement) offered }
 {
-    while let Some(offered) = supplies.first() {
-        let peg = match needs.first()? {
-            Some(requirement) => serve(item, needs, supplies, requirement, offered),
-            None => surplus(item, needs, supplies, offered),
-        };
-        if peg.quantity.value() > 0 {
-            return Ok(Some(peg));
-        }
+    match requirement {
+        Some(requirement) => lesser(requirement.quantity, offered),
+        None => offered,
     }
-    Ok(None)
 }
 
 /// The pegs of an item, one at a time, in order of requirement and supply, surplus last. Each is
@@ -107,12 +99,93 @@ impl<'a> PegWalk<'a> {
         })
     }
 
+    // Passes the first supply and the first requirement, as far as they have pieces in common, or the supply if
+    // nothing more is required.
+    #[inline(always)]
+    fn pass_first(&mut self, offered: Offered) -> Peg
+        requires filled { IsFilled self.old.needs }
+        requires offered { Some (amount_of_offer offered) ≡ slice_get (offered_left self.old.supplies) 0 }
+        ensures told { pegs_left self.old ≡ shown result ++ pegs_left self.new }
+        ensures pieces { result.quantity ≡ first_pieces self.old offered.quantity }
+        ensures shorter { steps_left self.new < steps_left self.old }
+    {
+        match self.needs.listed_first().copied() {
+            Some(requirement) => serve(
+                self.item,
+                &mut self.needs,
+                &mut self.supplies,
+                requirement,
+                offered,
+            ),
+            None => surplus(self.item, &self.needs, &mut self.supplies, offered),
+        }
+    }
+
+    /// Goes on to the next peg. Returns whether there is one.
+    ///
+    /// Errors: `NoMemory` if an allocation fails. What is left is then unspecified.
+    #[inline(always)]
+    pub fn arrive(&mut self) -> Result<bool, NoMemory>
+        ensures same { OnOk result (pegs_left self.new ≡ pegs_left self.old) }
+        ensures at { IfOk result (λ is_there. IsTrue is_there → IsAtPeg self.new) }
+        ensures none { IfOk result (λ is_there. is_there ≡ false → pegs_left self.new ≡ []) }
+    {
+        while let Some(offered) = self.supplies.first() {
+            self.needs.fill_first()?;
+            if pieces(self.needs.listed_first(), offered.quantity).value() > 0 {
+                return Ok(true);
+            }
+            self.pass_first(offered);
+        }
+        Ok(false)
+    }
+
+    /// The peg that the walk is at.
+    #[inline(always)]
+    pub fn peg(&self) -> PegAt<'_>
+        requires { IsAtPeg self.now }
+        ensures { (left : List Peg) × (pegs_left self.now ≡ peg_at self.now.item result ∷ left) }
+    {
+        let supply = self.supplies.first().unwrap();
+        let requirement = self.needs.listed_first();
+        PegAt {
+            need: requirement.map(|requirement| &requirement.need),
+            supply: supply.source,
+            quantity: pieces(requirement, supply.quantity),
+        }
+    }
+
+    /// Passes the peg that the walk is at.
+    #[inline(always)]
+    pub fn pass(&mut self)
+        requires { IsAtPeg self.old }
+        ensures { (peg : Peg) (left : List Peg) → pegs_left self.old ≡ peg ∷ left → pegs_left self.new ≡ left }
+    {
+        let offered = self.supplies.first().unwrap();
+        self.pass_first(offered);
+    }
+
     /// The next peg; `None` once all were given, and from then on.
     ///
     /// Errors: `NoMemory` if an allocation fails. What is left is then unspecified.
     pub fn next(&mut self) -> Result<Option<Peg>, NoMemory>
         ensures { IfOk result (λ peg. IsNext (pegs_left self.old) peg (pegs_left self.new)) }
     {
-        next_peg(self.item, &mut self.needs, &mut self.supplies)
+        if !self.arrive()? {
+            return Ok(None);
+        }
+        let PegAt {
+            need,
+            supply,
+            quantity,
+        } = self.peg();
+        let peg = Peg {
+            item: self.item,
+            need: need.copied(),
+            supply,
+            quantity,
+        };
+        self.pass();
+        Ok(Some(peg))
     }
 }

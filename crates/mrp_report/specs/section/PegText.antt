@@ -6,6 +6,8 @@ use Rattle.mrp_peg.specs.declared.peg.Need.{Need}
 use Rattle.mrp_peg.specs.declared.peg.NeedKind.{NeedKind}
 use Rattle.mrp_peg.specs.declared.peg.NeedKind.TheVariants as kind
 use Rattle.mrp_peg.specs.declared.peg.Peg.{Peg}
+use Rattle.mrp_peg.specs.declared.peg.PegAt.{PegAt}
+use Rattle.mrp_peg.specs.Left.{peg_at}
 use Rattle.mrp_report.specs.section.Cells.{parent_name}
 use Rattle.mrp_report.specs.page.Rows.{row}
 use Rattle.mrp_report.specs.section.SourceText.{source_name, source_word}
@@ -27,3 +29,7 @@ need_cells t None = [] ∷ codes "surplus" ∷ [] ∷ [] ∷ [] ∷ []
 abbrev pub peg_text : Tables → List ℕ → List Order → Peg → List ℕ
 peg_text t name orders p =
     row (name ∷ (need_cells t p.need ++ (source_word orders p.supply ∷ source_name t p.supply ∷ decimal p.quantity ∷ [])))
+
+-- the peg that a walk is at; which item it is of is not told
+abbrev pub row_at : Tables → List ℕ → List Order → PegAt → List ℕ
+row_at t name orders at = peg_text t name orders (peg_at 0 at)

@@ -2,7 +2,8 @@
 
 ghost use Rattle.std.specs.Prelude.{◌≡◌, ◌<◌, [], ◌∷◌, ◌++◌, IfOk, IfSome, IsTrue, OnOk, decimal, false};
 ghost use Rattle.mrp_report.specs.page.CellOf.{cell_of};
-ghost use Rattle.mrp_report.specs.section.PegText.{need_cells, peg_text};
+ghost use Rattle.std.specs.Option.{option_copied};
+ghost use Rattle.mrp_report.specs.section.PegText.{need_cells, row_at};
 ghost use Rattle.mrp_item.specs.Inputs.{count};
 ghost use Rattle.mrp_item.specs.Plan.{outcome_of, plan_in};
 ghost use Rattle.mrp_report.specs.section.PegRows.{IsAdded, count_left, rows_left};
@@ -16,7 +17,7 @@ use crate::section::readings::Readings;
 use crate::section::shop_names::ShopNames;
 use crate::section::source::{source_cell, source_word};
 use mrp_item::Order;
-use mrp_peg::{Need, NeedKind, Peg, PegWalk};
+use mrp_peg::{Need, NeedKind, PegAt, PegWalk};
 use mrp_qty::NoMemory;
 use std::alloc::Global;
 
@@ -44,8 +45,8 @@ impl<'a> Needed<'a> {
         }
     }
 
-    fn of(names: &'a ShopNames<'_>, need: Option<Need>) -> Needed<'a>
-        ensures { needed_cells result ≡ need_cells names.now.tables.now need }
+    fn of(names: &'a ShopNames<'_>, need: Option<&Need>) -> Needed<'a>
+        ensures { needed_cells result ≡ need_cells names.now.tables.now (option_copied need) }
     {
         let Some(need) = need else {
             return Needed::own(Cell::Empty, Word::Surplus, Cell::Empty);
@@ -100,9 +101,9 @@ fn peg_row(
     names: &ShopNames<'_>,
     name: &CsvName,
     orders: &[Order],
-    peg: &Peg,
+    peg: PegAt<'_>,
 ) -> Result<(), NoMemory>
-    ensures { OnOk result (page.new ≡ page.old ++ peg_text names.now.tables.now name.now orders.now peg.now) }
+    ensures { OnOk result (page.new ≡ page.old ++ row_at names.now.tables.now name.now orders.now peg) }
 {
     page.line(&PegLine {
         name,
@@ -170,8 +171,8 @@ impl<'a> PegRows<'a> {
 
     // The row of a peg, if all that it shares stands ready.
     #[inline(always)]
-    fn parent_line(&self, peg: &Peg) -> Option<ParentLine<'a>>
-        ensures { IfSome result (λ line. parent_text line ≡ peg_text self.now.readings.now.names.tables.now self.now.name.now self.now.orders.now peg.now) }
+    fn parent_line(&self, peg: PegAt<'_>) -> Option<ParentLine<'a>>
+        ensures { IfSome result (λ line. parent_text line ≡ row_at self.now.readings.now.names.tables.now self.now.name.now self.now.orders.now peg) }
     {
         let need = peg.need?;
         let NeedKind::Parent { line, order } = need.kind else {
@@ -190,8 +191,8 @@ impl<'a> PegRows<'a> {
 
     // Adds a peg.
     #[inline(always)]
-    fn add(&self, page: &mut Page, peg: &Peg) -> Result<(), NoMemory>
-        ensures { OnOk result (page.new ≡ page.old ++ peg_text self.now.readings.now.names.tables.now self.now.name.now self.now.orders.now peg.now) }
+    fn add(&self, page: &mut Page, peg: PegAt<'_>) -> Result<(), NoMemory>
+        ensures { OnOk result (page.new ≡ page.old ++ row_at self.now.readings.now.names.tables.now self.now.name.now self.now.orders.now peg) }
     {
         match self.parent_line(peg) {
             Some(line) => page.line(&line),
@@ -205,10 +206,11 @@ impl<'a> PegRows<'a> {
         ensures fewer { IfOk result (λ more. IsTrue more → count_left self.new < count_left self.old) }
         ensures all { IfOk result (λ more. more ≡ false → (rows_left self.old ≡ []) × (page.new ≡ page.old)) }
     {
-        let Some(peg) = self.walk.next()? else {
+        if !self.walk.arrive()? {
             return Ok(false);
-        };
-        self.add(page, &peg)?;
+        }
+        self.add(page, self.walk.peg())?;
+        self.walk.pass();
         Ok(true)
     }
 }
