@@ -5,7 +5,7 @@ use Rattle.std.proofs.lemmas.List.{drop_all, drop_more}
 use Rattle.mrp_survey.specs.LineLaws.{line_ends}
 use Rattle.mrp_survey.specs.Lines.{ends_own_line}
 use Rattle.mrp_inspect.specs.declared.lines.Counter.{Counter}
-use Rattle.mrp_inspect.specs.Lines.{at_front, counted, counted_all}
+use Rattle.mrp_inspect.specs.Lines.{counted, counted_all}
 
 -- one byte more
 pub counted-next : (c : Counter) (xs : List ℕ) (i b : ℕ) (whole : Counter) → i < length xs → get_or xs i 0 ≡ b → whole ≡ counted_all c (drop i xs) → whole ≡ counted_all (counted c b) (drop (i + 1) xs)

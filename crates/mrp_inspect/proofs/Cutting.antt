@@ -1,6 +1,5 @@
 -- Pieces, one after another.
-use Rattle.std.proofs.Common.{◌≡◌, ◌∙◌, ◌+◌, ◌<◌, ℕ, List, [], ◌∷◌, ◌++◌, Some, None, append_assoc, append-nil, drop, get_or, length, refl, sym, ap, arith, take}
-use Rattle.std.proofs.lemmas.List.{nil_from_length}
+use Rattle.std.proofs.Common.{◌≡◌, ◌∙◌, ℕ, List, [], ◌∷◌, ◌++◌, Some, None, append_assoc, append-nil, sym, ap}
 use Rattle.mrp_rows.specs.Bundle.{Section, line_text, lines_of, parts_of, sections_in}
 use Rattle.mrp_rows.specs.declared.fault.Table.{Table}
 use Rattle.mrp_inspect.specs.declared.lines.Counter.{Counter}

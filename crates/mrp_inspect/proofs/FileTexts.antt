@@ -1,5 +1,5 @@
 -- The text of a file in the bundle.
-use Rattle.std.proofs.Common.{◌≡◌, ◌∙◌, ℕ, ◌+◌, ◌<◌, ◌≤◌, List, [], ◌∷◌, ◌++◌, Vec, append_assoc, ap, arith, codes, drop, get_or, length, length-append, map, refl, sym, take}
+use Rattle.std.proofs.Common.{◌≡◌, ◌∙◌, ℕ, ◌+◌, ◌<◌, ◌≤◌, List, [], ◌∷◌, ◌++◌, Vec, append_assoc, ap, arith, codes, drop, get_or, length, length-append, map, sym, take}
 use Rattle.std.proofs.Math.Seq.{drop-append_seam, take-append_seam}
 use Rattle.std.proofs.lemmas.List.{drop_more}
 use Rattle.std.specs.declared.alloc.Global.{Global}

@@ -47,11 +47,11 @@ th{font-weight:400;text-align:left}
 .list .t,.list th[scope=row]{text-align:left}
 .list thead th{vertical-align:bottom}
 .list td i{display:inline-block;min-width:clamp(3.2em,(var(--weeks) - 52)*9em,4.9em);margin-left:.2em;white-space:nowrap}
-#risk .t:nth-child(5){padding-left:.8rem}
+#risk .t:nth-child(5){padding-left:.8rem;width:26%}
 .list tbody tr:hover{background:#f0f4f8}
 .list tbody:empty::after{content:\"None on this page\"}
 .even{table-layout:fixed;width:100%;max-width:64rem}
-.even th,.even td{overflow-wrap:anywhere}
+.even th,.even td{overflow-wrap:anywhere;padding-right:clamp(.4rem,1rem - (var(--weeks) - 52)*1rem,1rem)}
 .even th:first-child,.even .t{width:clamp(19%,26% - (var(--weeks) - 52)*1%,26%)}
 .over b{display:inline-block;min-width:5.5em;text-align:right}
 .over details>.scroll{margin:0 0 .4rem 2rem}
@@ -87,6 +87,6 @@ polyline{stroke:#2b6cb0;stroke-width:2}
 .grid .over td{color:#b32626;font-weight:600}
 .more{margin:.3rem 0}
 main:has(>.more) .item details .scroll::after{content:\"Orders and pegs that are not on this page are counted behind the items.\";color:#566472}
-@media (max-width:40rem){:root{--label:7rem}body{--week:4.2rem;padding:0 .6rem 2rem;font-size:13px}nav{margin:0 -.6rem;padding:.4rem .6rem}nav a{margin-right:.7rem}main{display:flex;flex-direction:column}#unkept,#risk,#todo{order:-1}.axis span:nth-child(2){display:none}.sum a{padding:.1rem .5rem;flex:1 1 9rem}.even{font-size:.78rem}.even th,.even td{padding-right:.25rem}.even thead th{font-size:.68rem}.even td i{display:block;min-width:0;margin-left:-1.5rem}.even th:first-child,.even .t{width:22%}.over b{min-width:0}.over details>.scroll,.over details>.note{margin-left:0}}
+@media (max-width:40rem){:root{--label:7rem}body{--week:4.2rem;padding:0 .6rem 2rem;font-size:13px}nav{margin:0 -.6rem;padding:.4rem .6rem}nav a{margin-right:.7rem}main{display:flex;flex-direction:column}#unkept,#risk,#todo{order:-1}.axis span:nth-child(2){display:none}.sum a{padding:.1rem .5rem;flex:1 1 9rem}.even{font-size:.78rem}.even th,.even td{padding-right:.25rem}.even thead th{font-size:.68rem}.even td i{display:block;min-width:0;margin-left:-1.5rem}.even th:first-child,.even .t,#risk .t:nth-child(5){width:22%}.over b{min-width:0}.over details>.scroll,.over details>.note{margin-left:0}}
 @media print{@page{size:landscape;margin:1cm 1cm 1.3cm;@bottom-right{content:counter(page) \" / \" counter(pages);font:8pt system-ui,sans-serif;color:#566472}}body{--label:11rem;--week:4.1rem;padding:0;font-size:10px}nav,h2 a,h3 a{display:none}a{color:inherit;text-decoration:none}.scroll{overflow:visible}h2,h3,caption,summary,thead,.note,.chart,.said{break-after:avoid}.scroll+details{break-before:avoid}tr,li,.grid,.chart,.said{break-inside:avoid}section{padding:.5rem 0}svg{height:3rem}summary{list-style:none}.sum{gap:.3rem}.sum a{padding:.1rem .35rem}#todo .rest>summary,#unkept .rest>summary,#risk .rest>summary{display:none}#todo details::details-content,#unkept details::details-content,#risk details::details-content{content-visibility:visible;block-size:auto}.load,.hot,.above,.cut,.todo td,.sum a,.kind{print-color-adjust:exact}}
 ";

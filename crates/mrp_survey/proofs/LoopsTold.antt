@@ -1,10 +1,9 @@
 -- Each item that needs itself is in a set that is told.
 use Rattle.std.proofs.Common.{◌≡◌, ◌∙◌, ◌<◌, ℕ, zero, suc, List, [], ◌∷◌, Option, ap, arith, get_or, length, map, refl, sym}
-use Rattle.std.specs.List.{All, Contains}
+use Rattle.std.specs.List.{Contains}
 use Rattle.std.proofs.lemmas.List.{get_or-map, length-map}
 use Rattle.mrp_loops.specs.declared.line.Loop.{Loop}
 use Rattle.mrp_loops.specs.Loops.{IsTold, items_of}
-use Rattle.mrp_loops.specs.Needs.{NeedEachOther}
 use Rattle.mrp_survey.specs.declared.bill_lines.BillLine.{BillLine}
 use Rattle.mrp_survey.specs.LoopLaws.{IsInTold, TellsEachItem}
 use Rattle.mrp_survey.specs.Loops.{AreFound, edges_of, loop_told}

@@ -1,14 +1,13 @@
 -- Bytes of a record that are neither quotes nor line ends.
-use Rattle.std.proofs.Common.{◌≡◌, ◌≢◌, ◌∙◌, ◌+◌, ◌<◌, ◌≤◌, ℕ, zero, suc, Bool, true, false, List, [], ◌∷◌, ◌++◌, drop, get_or, length, take, refl, sym, ap, arith}
-use Rattle.std.specs.Prelude.{◌==◌, ◌&&◌, ◌||◌, not, if◌then◌else◌}
+use Rattle.std.proofs.Common.{◌≡◌, ◌≢◌, ◌∙◌, ◌<◌, ◌≤◌, ℕ, zero, suc, Bool, true, false, List, [], ◌∷◌, ◌++◌, drop, get_or, length, take, refl, sym, ap, arith}
+use Rattle.std.specs.Prelude.{◌==◌, ◌||◌, not, if◌then◌else◌}
 use Rattle.std.specs.List.{list_all}
 use Rattle.std.proofs.lemmas.Bool.{and_parts}
 use Rattle.std.proofs.lemmas.List.{take-append-drop}
-use Rattle.mrp_rows.specs.Bundle.{ends_line}
 use Rattle.mrp_survey.specs.declared.lines.Reading.{Reading}
 use Rattle.mrp_survey.specs.declared.lines.Spot.{Spot}
 use Rattle.mrp_survey.specs.declared.lines.Spot.TheVariants as spot
-use Rattle.mrp_survey.specs.Lines.{begins_record, ends_own_line, is_between, is_special, lines_from, spot_after, spot_behind, step_to}
+use Rattle.mrp_survey.specs.Lines.{ends_own_line, is_between, is_special, lines_from, spot_after, spot_behind, step_to}
 
 abbrev is_plain : ℕ → Bool
 is_plain byte = not (is_special byte)

@@ -1,4 +1,4 @@
-use Rattle.std.proofs.Common.{◌∙◌, ◌++◌, List, ap, map, sym}
+use Rattle.std.proofs.Common.{◌∙◌, List, ap, map, sym}
 use Rattle.std.proofs.lemmas.Result.{on_ok_weaker}
 use Rattle.mrp_survey.specs.Surveyed.{LoopTold}
 use Rattle.mrp_advice.specs.Lines.{fault_lines}

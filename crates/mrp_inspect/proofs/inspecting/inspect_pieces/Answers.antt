@@ -1,7 +1,6 @@
-use Rattle.std.proofs.Common.{◌≡◌, ◌∙◌, ℕ, List, Option, subst}
+use Rattle.std.proofs.Common.{ℕ, List, subst}
 use Rattle.std.specs.Prelude.{string_bytes}
 use Rattle.std.proofs.lemmas.Result.{IfOk-weaker}
-use Rattle.mrp_survey.specs.declared.source.Source.{Source}
 use Rattle.mrp_inspect.specs.Inspected.{Tells}
 use Rattle.mrp_inspect.specs.Pieces.{FilePiece}
 use Rattle.mrp_inspect.specs.Strays.{AreSources}

@@ -1,4 +1,4 @@
-use Rattle.std.proofs.Common.{◌∙◌, ap, ap₂, List}
+use Rattle.std.proofs.Common.{◌∙◌, ap₂, List}
 use Rattle.std.proofs.lemmas.Result.{IfOk-weaker}
 use Rattle.mrp_warn.specs.declared.sheets.Sheet.{Sheet}
 use Rattle.mrp_warn.specs.declared.telling.Group.{Group}

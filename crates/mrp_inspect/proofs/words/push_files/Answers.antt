@@ -1,4 +1,4 @@
-use Rattle.std.proofs.Common.{◌∙◌, ◌++◌, ℕ, List, ap, map, sym}
+use Rattle.std.proofs.Common.{◌∙◌, ℕ, List, ap, map, sym}
 use Rattle.std.specs.Prelude.{filter_map}
 use Rattle.std.proofs.lemmas.Result.{on_ok_weaker}
 use Rattle.mrp_advice.specs.Listing.{Listed, listed_in, with_lines}

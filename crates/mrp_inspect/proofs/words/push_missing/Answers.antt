@@ -1,5 +1,5 @@
 use Rattle.std.proofs.Common.{◌≡◌, ◌∙◌, ◌+◌, ◌++◌, ℕ, List, [], Option, ap, get_or, refl, sym, take}
-use Rattle.std.specs.Prelude.{filter_map, string_bytes}
+use Rattle.std.specs.Prelude.{filter_map}
 use Rattle.std.specs.Option.{option_to_list}
 use Rattle.std.proofs.lemmas.List.{take_all}
 use Rattle.mrp_rows.specs.declared.fault.Table.{Table}

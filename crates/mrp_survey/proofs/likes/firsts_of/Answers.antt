@@ -1,4 +1,4 @@
-use Rattle.std.proofs.Common.{◌≡◌, ◌∙◌, sym}
+use Rattle.std.proofs.Common.{◌∙◌, sym}
 use Rattle.mrp_survey.proofs.LikeNames.{firsts-next, firsts-past}
 use Rattle.mrp_survey.proofs.likes.firsts_of.Goals as goal
 use Rattle.mrp_survey.proofs.likes.firsts_of.Goals.{in-Some+in_ok-add_first, in_default}

@@ -1,4 +1,4 @@
-use Rattle.std.proofs.Common.{◌≡◌, ◌∙◌, Option, List, ℕ, Some, None, ap, arith, sym}
+use Rattle.std.proofs.Common.{◌∙◌, Option, List, ℕ, ap, arith, sym}
 use Rattle.std.specs.Prelude.{unwrap_or}
 use Rattle.mrp_survey.specs.Likes.{lowered}
 use Rattle.mrp_survey.proofs.LikeNames.{all-written, named-lower, none-some, short-name, written}
