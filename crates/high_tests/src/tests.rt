@@ -24,6 +24,7 @@ mod odd_streams;
 mod pages;
 mod pegging;
 mod reports;
+mod run_files;
 mod streams;
 mod texts;
 mod traces;
