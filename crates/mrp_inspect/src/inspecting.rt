@@ -182,7 +182,7 @@ fn inspect_sources(
     let (surveyed, opened) = open_and_survey(rt, alloc, bundle, sources);
     match opened {
         Ok(shop) => {
-            drop(surveyed);
+            drop(surveyed?);
             let text = warnings_of(alloc, bundle, &shop, sources)?;
             Ok(Inspected {
                 text,
