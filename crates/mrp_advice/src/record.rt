@@ -7,7 +7,7 @@ use crate::expected::among_words;
 use crate::header::push_commas;
 use crate::sign::push_shown;
 use crate::text::{push_counted, push_number};
-use mrp_rows::Record;
+use mrp_rows::{Record, is_line_end};
 use mrp_survey::{Words, are_empty_from, cell_in};
 use std::alloc::AllocError;
 
@@ -33,7 +33,7 @@ pub(crate) fn push_blank(first: u64, last: u64, text: &mut String) -> Result<(),
 fn has_line_end(cell: &[u8]) -> bool
     ensures { result ≡ has_line_end cell.now }
 {
-    cell.iter().any(|byte| *byte == b'\n' || *byte == b'\r')
+    cell.iter().any(|byte| is_line_end(*byte))
 }
 
 // What is said of a quote that was left open.
