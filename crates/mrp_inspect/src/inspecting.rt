@@ -1,6 +1,6 @@
 //! Telling what is wrong with the tables of a folder, or what is odd.
 
-ghost use Rattle.std.specs.Prelude.{◌≡◌, ◌++◌, ◌∷◌, [], IfOk, List, OnOk, Option, filter_map, map, string_bytes};
+ghost use Rattle.std.specs.Prelude.{◌≡◌, ◌++◌, ◌∷◌, [], ℕ, IfOk, List, OnOk, Option, filter_map, map, string_bytes};
 ghost use Rattle.mrp_script.specs.Opened.{Opens};
 ghost use Rattle.mrp_survey.specs.declared.source.Source.{Source};
 ghost use Rattle.mrp_advice.specs.Lines.{survey_lines};
@@ -165,6 +165,32 @@ fn open_and_survey(
     thread::join(rt, tell, open)
 }
 
+// What is told where tables are refused, with a survey of their texts.
+fn inspect_refused(
+    alloc: Global,
+    found: &Found,
+    firsts: &[Option<usize>],
+    strays: &[Stray<'_>],
+    survey: &Survey,
+    why: OpenFault,
+) -> Result<Inspected, NoMemory>
+    requires firsts { firsts.now ≡ firsts_of (pieces_of (parts_of found.now)) }
+    requires strays { strays.now ≡ strays_of (pieces_of (parts_of found.now)) }
+    ensures { (bundle : List ℕ) (sources : List (Option Source)) → Opens bundle (Err why) → IsSurveyOf sources survey.now
+        → IfOk result (λ inspected. Tells inspected.has_faults bundle found.now sources (string_bytes inspected.text)) }
+{
+    match why {
+        OpenFault::Refused(fault) => {
+            let told = faults_of(alloc, found, firsts, strays, survey, &fault)?;
+            Ok(Inspected {
+                text: told,
+                has_faults: true,
+            })
+        }
+        OpenFault::NoMemory => Err(NoMemory),
+    }
+}
+
 // What is told where tables are accepted, or refused.
 fn inspect_sources(
     rt: &(impl Threads + Sync),
@@ -180,24 +206,17 @@ fn inspect_sources(
     ensures { IfOk result (λ inspected. Tells inspected.has_faults bundle.now found.now sources.now (string_bytes inspected.text)) }
 {
     let (surveyed, opened) = open_and_survey(rt, alloc, bundle, sources);
+    let survey = surveyed?;
     match opened {
         Ok(shop) => {
-            drop(surveyed?);
+            drop(survey);
             let text = warnings_of(alloc, bundle, &shop, sources)?;
             Ok(Inspected {
                 text,
                 has_faults: false,
             })
         }
-        Err(OpenFault::Refused(fault)) => {
-            let survey = surveyed?;
-            let told = faults_of(alloc, found, firsts, strays, &survey, &fault)?;
-            Ok(Inspected {
-                text: told,
-                has_faults: true,
-            })
-        }
-        Err(OpenFault::NoMemory) => Err(NoMemory),
+        Err(why) => inspect_refused(alloc, found, firsts, strays, &survey, why),
     }
 }
 
