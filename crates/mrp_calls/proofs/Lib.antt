@@ -1,0 +1,17 @@
+pub mod LineCells
+pub mod Lines
+pub mod Entered
+pub mod Tried
+pub mod PlainCells
+pub mod PlainRows
+pub mod ReadBack
+pub mod RecordLines
+pub mod TableRows
+pub mod ShortRecords
+pub mod Steps
+pub mod AnswerLines
+pub mod Answered
+pub mod OnJournals
+pub mod BundleTexts
+pub mod OnFolders
+pub mod RefusedLines

@@ -1,0 +1,6 @@
+pub mod Answers
+pub mod Batches
+pub mod CallRecord
+pub mod Desk
+pub mod Journals
+pub mod LineCall
