@@ -51,6 +51,13 @@ class HostileShapes(unittest.TestCase):
                 TOOL.make(texts, path)
                 self.assertEqual(os.path.getsize(path), size)
 
+    def test_a_shape_is_a_folder_of_tables(self):
+        with tempfile.TemporaryDirectory() as room:
+            size = TOOL.make_folder(["[stock]\nitem,onhand\n[items]\nitem\n", TOOL.Filled(",", 10)], room)
+            self.assertEqual(size, 12 + 15)
+            with open(os.path.join(room, "items.csv"), encoding="utf-8") as held:
+                self.assertEqual(held.read(), "item\n" + 10 * ",")
+
     def test_a_line_is_found_across_pieces(self):
         for text, is_there in (("a\nline\nb", True), ("line\nb", True), ("a\nlines\nb", False), ("a\nline", False)):
             looking = TOOL.Looking("line")

@@ -31,6 +31,7 @@ mod offices;
 mod plans;
 mod promises;
 mod quantities;
+mod records;
 mod snapshots;
 mod streams;
 mod tables;

@@ -6,7 +6,7 @@ use Rattle.std.specs.Cmp.Lexicographic.{pointwise}
 use Rattle.std.specs.List.{list_all, list_any}
 use Rattle.std.proofs.lemmas.List.{drop_all, drop_more, get_or-map, length-map}
 use Rattle.mrp_rows.specs.declared.fault.Table.{Table}
-use Rattle.mrp_survey.specs.Forms.{Row}
+use Rattle.mrp_survey.specs.Forms.{AllCells, Row}
 use Rattle.mrp_advice.specs.Headers.{first_other, is_of_other, same_count}
 
 -- one more table
@@ -26,7 +26,7 @@ not-same false true e = sym e
 not-same false false e = refl
 
 -- one more cell, and its column
-pub same-more : (row : Row) (names : List (Bor (List ℕ))) (i : ℕ) (d : Bor (List ℕ)) (cell name : List ℕ) (differs same : Bool) → i < length row → i < length names → cell ≡ get_or row i [] → name ≡ (get_or names i d).now
+pub same-more : (row : AllCells) (names : List (Bor (List ℕ))) (i : ℕ) (d : Bor (List ℕ)) (cell name : List ℕ) (differs same : Bool) → i < length row → i < length names → cell ≡ get_or row i [] → name ≡ (get_or names i d).now
     → differs ≡ not (pointwise nat_eq cell name) → differs ≡ not same
     → same_count (drop i row) (drop i (map (λ n. n.now) names)) ≡ (if same then suc (same_count (drop (i + 1) row) (drop (i + 1) (map (λ n. n.now) names))) else 0)
 unfolding same_count
@@ -38,16 +38,16 @@ same-more row names i d cell name differs same in_row in_names cell_is name_is t
     rw (drop_more row i [] in_row, drop_more (map now names) i [] in_columns, ← cell_is, ← name_at, own) refl
 
 -- no more cell, or no more column
-pub same-end : (row : Row) (columns : List (List ℕ)) (i : ℕ) → length row ≤ i → same_count (drop i row) (drop i columns) ≡ 0
+pub same-end : (row : AllCells) (columns : List (List ℕ)) (i : ℕ) → length row ≤ i → same_count (drop i row) (drop i columns) ≡ 0
 unfolding same_count
 same-end row columns i past = rw (drop_all i row past) refl
 
-same-none : (row : Row) → same_count row [] ≡ 0
+same-none : (row : AllCells) → same_count row [] ≡ 0
 unfolding same_count
 same-none [] = refl
 same-none (cell ∷ row) = refl
 
-pub same-all : (row : Row) (columns : List (List ℕ)) (i : ℕ) → length columns ≤ i → same_count (drop i row) (drop i columns) ≡ 0
+pub same-all : (row : AllCells) (columns : List (List ℕ)) (i : ℕ) → length columns ≤ i → same_count (drop i row) (drop i columns) ≡ 0
 same-all row columns i past = rw (drop_all i columns past) (same-none (drop i row))
 
 -- the count so far, where nothing more is counted, and where one more is

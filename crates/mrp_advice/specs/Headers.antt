@@ -9,9 +9,9 @@ use Rattle.mrp_rows.specs.Tables.{table_index}
 use Rattle.mrp_tables.specs.declared.version.Version.TheVariants.{One, Three}
 use Rattle.mrp_survey.specs.declared.front.Front.{Front}
 use Rattle.mrp_survey.specs.declared.front.Front.TheVariants as front
-use Rattle.mrp_survey.specs.Entries.{are_empty}
+use Rattle.mrp_survey.specs.Entries.{are_empty_from}
 use Rattle.mrp_survey.specs.Forms.{Row, cell_in}
-use Rattle.mrp_survey.specs.Headers.{are_like_columns, is_like, table_columns}
+use Rattle.mrp_survey.specs.Headers.{are_columns, are_like_columns, is_like, table_columns}
 use Rattle.mrp_advice.specs.declared.header.Cause.{Cause}
 use Rattle.mrp_advice.specs.declared.header.Cause.TheVariants as cause
 use Rattle.mrp_advice.specs.Shown.{shown}
@@ -22,11 +22,11 @@ tables = t.Calendar ∷ t.Items ∷ t.Centres ∷ t.Stock ∷ t.Receipts ∷ t.B
 
 -- a record has one cell, and this byte is in it
 abbrev pub has_alone : ℕ → Row → Bool
-has_alone byte row = (length row == 1) && list_any (λ b. b == byte) (cell_in row 0)
+has_alone byte row = (row.count == 1) && list_any (λ b. b == byte) (cell_in row 0)
 
 -- a record is the header of a table in some version
 abbrev pub is_header_of : Row → Table → Bool
-is_header_of row table = pointwise (pointwise nat_eq) row (table_columns One table) || pointwise (pointwise nat_eq) row (table_columns Three table)
+is_header_of row table = are_columns row (table_columns One table) || are_columns row (table_columns Three table)
 
 abbrev pub is_of_other : Table → Row → Table → Bool
 is_of_other own row table = not (table_index table == table_index own) && is_header_of row table
@@ -37,36 +37,36 @@ first_other own row [] = None
 first_other own row (table ∷ others) = if is_of_other own row table then Some table else first_other own row others
 
 -- how many of the first cells are their columns
-unfoldable pub same_count : Row → List (List ℕ) → ℕ
+unfoldable pub same_count : List (List ℕ) → List (List ℕ) → ℕ
 same_count [] columns = 0
 same_count (cell ∷ row) [] = 0
 same_count (cell ∷ row) (column ∷ columns) = if pointwise nat_eq cell column then suc (same_count row columns) else 0
 
--- some cell is a column, capitals and spaces at its ends put aside
-abbrev pub has_like : Row → List ℕ → Bool
-has_like row column = list_any (λ cell. is_like cell column) row
+-- some cell of those that are looked at is a column, capitals and spaces at its ends put aside
+abbrev pub has_like : List (List ℕ) → List ℕ → Bool
+has_like cells column = list_any (λ cell. is_like cell column) cells
 
 -- all columns are there, but in another order
 abbrev pub is_shuffled : List (List ℕ) → Row → Bool
-is_shuffled columns row = ((length row == length columns) && list_all (has_like row) columns) && not (are_like_columns row columns)
+is_shuffled columns row = ((row.count == length columns) && list_all (has_like row.first) columns) && not (are_like_columns row columns)
 
 -- the columns are there, and behind them empty cells alone
 abbrev pub has_commas : List (List ℕ) → Row → Bool
-has_commas columns row = (same_count row columns == length columns) && are_empty (drop (length columns) row)
+has_commas columns row = (same_count row.first columns == length columns) && are_empty_from row (length columns)
 
 -- where the first difference is, or the end of the columns or of the record
 abbrev pub difference : List (List ℕ) → Row → ℕ → Cause
 difference columns row place =
-    if place == length row then cause.Lacks place
+    if place == row.count then cause.Lacks place
     else if place == length columns then cause.Excess place
     else cause.Differs place
 
 abbrev pub column_cause : List (List ℕ) → Row → Cause
 column_cause columns row =
-    if has_commas columns row then cause.Commas (length row - length columns)
+    if has_commas columns row then cause.Commas (row.count - length columns)
     else if is_shuffled columns row then cause.Shuffled
-    else if not (list_any (has_like row) columns) then cause.Strange
-    else difference columns row (same_count row columns)
+    else if not (list_any (has_like row.first) columns) then cause.Strange
+    else difference columns row (same_count row.first columns)
 
 abbrev pub known_cause : List (List ℕ) → Row → Option Table → Cause
 known_cause columns row (Some table) = cause.OtherTable table
@@ -74,10 +74,10 @@ known_cause columns row None = column_cause columns row
 
 abbrev pub cells_cause : Table → List (List ℕ) → Row → Cause
 cells_cause own columns row =
-    if length row == 0 then cause.Empty
+    if row.count == 0 then cause.Empty
     else if has_alone 59 row then cause.Semicolons
     else if has_alone 9 row then cause.Tabs
-    else if are_empty row then cause.Blank
+    else if are_empty_from row 0 then cause.Blank
     else known_cause columns row (first_other own row tables)
 
 -- why a record is not the header of its table, by how the text begins and by its cells

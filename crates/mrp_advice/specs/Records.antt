@@ -4,7 +4,7 @@ use Rattle.std.specs.List.{list_any}
 use Rattle.mrp_rows.specs.Bundle.{ends_line}
 use Rattle.mrp_survey.specs.declared.kind.Words.{Words}
 use Rattle.mrp_survey.specs.declared.kind.Words.TheVariants as words
-use Rattle.mrp_survey.specs.Entries.{are_empty}
+use Rattle.mrp_survey.specs.Entries.{are_empty_from}
 use Rattle.mrp_survey.specs.Forms.{Row, cell_in}
 use Rattle.mrp_advice.specs.Expected.{among_words}
 use Rattle.mrp_advice.specs.Headers.{commas_words}
@@ -34,17 +34,17 @@ cells_counted count = counted count (codes "cell")
 
 -- too few cells
 abbrev pub few_words : Row → List ℕ
-few_words row = cells_counted (length row) ++ last_words (cell_in row (length row - 1))
+few_words row = cells_counted row.count ++ last_words (cell_in row (row.count - 1))
 
 -- too many
 abbrev pub many_words : ℕ → Row → List ℕ
 many_words wanted row =
-    if are_empty (drop wanted row) then commas_words (length row - wanted)
-    else cells_counted (length row) ++ codes " (one that has a comma stands in double quotes)"
+    if are_empty_from row wanted then commas_words (row.count - wanted)
+    else cells_counted row.count ++ codes " (one that has a comma stands in double quotes)"
 
 -- another count of cells than is wanted
 abbrev pub columns_words : ℕ → Row → List ℕ
-columns_words wanted row = if nat_lt wanted (length row) then many_words wanted row else few_words row
+columns_words wanted row = if nat_lt wanted row.count then many_words wanted row else few_words row
 
 abbrev pub wanted_words : ℕ → List ℕ
 wanted_words wanted = decimal wanted ++ codes " cells"

@@ -2,17 +2,14 @@
 
 ghost use Rattle.std.specs.Prelude.{◌≡◌, ◌++◌, ◌==◌, OnOk, drop, map, string_bytes};
 ghost use Rattle.std.specs.List.{list_all, list_any};
-ghost use Rattle.csv.specs.Records.{fields_of};
-ghost use Rattle.mrp_survey.specs.Entries.{are_empty};
 ghost use Rattle.mrp_survey.specs.Forms.{cell_in};
 ghost use Rattle.mrp_advice.specs.Headers.{cause_of, cause_words, cells_cause, column_at, column_cause, commas_words, difference, differs_words, excess_words, first_other, has_alone, has_commas, has_like, header_words, in_place_words, is_header_of, is_of_other, is_shuffled, lacks_words, other_words, place_words, same_count, strange_words, tables, there_words};
 
 use crate::sign::push_shown;
 use crate::text::push_counted;
-use csv::ByteRecord;
 use itoa::Buffer;
-use mrp_rows::Table;
-use mrp_survey::{Front, are_columns, are_like, cell_in, column_names, is_like};
+use mrp_rows::{Record, Table};
+use mrp_survey::{Front, are_columns, are_empty_from, are_like, cell_in, column_names, is_like};
 use mrp_tables::Version;
 use std::alloc::AllocError;
 
@@ -55,10 +52,10 @@ const TABLES: [Table; 9] = [
     Table::Script,
 ];
 
-fn has_alone(byte: u8, row: &ByteRecord) -> bool
-    ensures { result ≡ has_alone byte (fields_of row.now) }
+fn has_alone(byte: u8, row: &Record) -> bool
+    ensures { result ≡ has_alone byte row.now }
 {
-    row.len() == 1 && has_byte(cell_in(row, 0), byte)
+    row.count() == 1 && has_byte(cell_in(row, 0), byte)
 }
 
 fn has_byte(cell: &[u8], byte: u8) -> bool
@@ -67,34 +64,22 @@ fn has_byte(cell: &[u8], byte: u8) -> bool
     cell.iter().any(|own| *own == byte)
 }
 
-// Whether all cells from a place on are empty.
-pub(crate) fn are_empty_from(row: &ByteRecord, place: usize) -> bool
-    ensures { result ≡ are_empty (drop place (fields_of row.now)) }
-{
-    for column in place..row.len() {
-        if !cell_in(row, column).is_empty() {
-            return false;
-        }
-    }
-    true
-}
-
-fn is_header_of(row: &ByteRecord, table: Table) -> bool
-    ensures { result ≡ is_header_of (fields_of row.now) table }
+fn is_header_of(row: &Record, table: Table) -> bool
+    ensures { result ≡ is_header_of row.now table }
 {
     are_columns(row, column_names(table, Version::One))
         || are_columns(row, column_names(table, Version::Three))
 }
 
-fn is_of_other(own: Table, row: &ByteRecord, table: Table) -> bool
-    ensures { result ≡ is_of_other own (fields_of row.now) table }
+fn is_of_other(own: Table, row: &Record, table: Table) -> bool
+    ensures { result ≡ is_of_other own row.now table }
 {
     table.index() != own.index() && is_header_of(row, table)
 }
 
 // The first table but its own whose header a record is.
-fn first_other(own: Table, row: &ByteRecord) -> Option<Table>
-    ensures { result ≡ first_other own (fields_of row.now) tables }
+fn first_other(own: Table, row: &Record) -> Option<Table>
+    ensures { result ≡ first_other own row.now tables }
 {
     for table in &TABLES {
         if is_of_other(own, row, *table) {
@@ -105,22 +90,22 @@ fn first_other(own: Table, row: &ByteRecord) -> Option<Table>
 }
 
 // How many of the first cells are their columns.
-fn same_count(row: &ByteRecord, columns: &[&str]) -> usize
-    ensures { result ≡ same_count (fields_of row.now) (map (λ c. c.now) columns.now) }
+fn same_count(row: &Record, columns: &[&str]) -> usize
+    ensures { result ≡ same_count row.now.first (map (λ c. c.now) columns.now) }
 {
     for (place, column) in columns.iter().enumerate() {
-        if place == row.len() || cell_in(row, place) != column.as_bytes() {
+        if place == row.kept() || cell_in(row, place) != column.as_bytes() {
             return place;
         }
     }
     columns.len()
 }
 
-// Whether some cell is a column, capitals and spaces at its ends put aside.
-fn has_like(row: &ByteRecord, name: &str) -> bool
-    ensures { result ≡ has_like (fields_of row.now) name.now }
+// Whether some cell of those that are looked at is a column, capitals and spaces at its ends put aside.
+fn has_like(row: &Record, name: &str) -> bool
+    ensures { result ≡ has_like row.now.first name.now }
 {
-    for column in 0..row.len() {
+    for column in 0..row.kept() {
         if is_like(cell_in(row, column), name) {
             return true;
         }
@@ -128,8 +113,8 @@ fn has_like(row: &ByteRecord, name: &str) -> bool
     false
 }
 
-fn has_each(row: &ByteRecord, columns: &[&str]) -> bool
-    ensures { result ≡ list_all (has_like (fields_of row.now)) (map (λ c. c.now) columns.now) }
+fn has_each(row: &Record, columns: &[&str]) -> bool
+    ensures { result ≡ list_all (has_like row.now.first) (map (λ c. c.now) columns.now) }
 {
     for column in columns {
         if !has_like(row, column) {
@@ -139,8 +124,8 @@ fn has_each(row: &ByteRecord, columns: &[&str]) -> bool
     true
 }
 
-fn has_some(row: &ByteRecord, columns: &[&str]) -> bool
-    ensures { result ≡ list_any (has_like (fields_of row.now)) (map (λ c. c.now) columns.now) }
+fn has_some(row: &Record, columns: &[&str]) -> bool
+    ensures { result ≡ list_any (has_like row.now.first) (map (λ c. c.now) columns.now) }
 {
     for column in columns {
         if has_like(row, column) {
@@ -150,22 +135,22 @@ fn has_some(row: &ByteRecord, columns: &[&str]) -> bool
     false
 }
 
-fn is_shuffled(row: &ByteRecord, columns: &[&str]) -> bool
-    ensures { result ≡ is_shuffled (map (λ c. c.now) columns.now) (fields_of row.now) }
+fn is_shuffled(row: &Record, columns: &[&str]) -> bool
+    ensures { result ≡ is_shuffled (map (λ c. c.now) columns.now) row.now }
 {
-    row.len() == columns.len() && has_each(row, columns) && !are_like(row, columns)
+    row.count() == columns.len() && has_each(row, columns) && !are_like(row, columns)
 }
 
-fn has_commas(row: &ByteRecord, columns: &[&str]) -> bool
-    ensures { result ≡ has_commas (map (λ c. c.now) columns.now) (fields_of row.now) }
+fn has_commas(row: &Record, columns: &[&str]) -> bool
+    ensures { result ≡ has_commas (map (λ c. c.now) columns.now) row.now }
 {
     same_count(row, columns) == columns.len() && are_empty_from(row, columns.len())
 }
 
-fn difference(row: &ByteRecord, columns: &[&str], place: usize) -> Cause
-    ensures { result ≡ difference (map (λ c. c.now) columns.now) (fields_of row.now) place }
+fn difference(row: &Record, columns: &[&str], place: usize) -> Cause
+    ensures { result ≡ difference (map (λ c. c.now) columns.now) row.now place }
 {
-    if place == row.len() {
+    if place == row.count() {
         Cause::Lacks(place)
     } else if place == columns.len() {
         Cause::Excess(place)
@@ -174,11 +159,11 @@ fn difference(row: &ByteRecord, columns: &[&str], place: usize) -> Cause
     }
 }
 
-fn column_cause(row: &ByteRecord, columns: &[&str]) -> Cause
-    ensures { result ≡ column_cause (map (λ c. c.now) columns.now) (fields_of row.now) }
+fn column_cause(row: &Record, columns: &[&str]) -> Cause
+    ensures { result ≡ column_cause (map (λ c. c.now) columns.now) row.now }
 {
     if has_commas(row, columns) {
-        Cause::Commas(row.len().saturating_sub(columns.len()))
+        Cause::Commas(row.count().saturating_sub(columns.len()))
     } else if is_shuffled(row, columns) {
         Cause::Shuffled
     } else if !has_some(row, columns) {
@@ -188,10 +173,10 @@ fn column_cause(row: &ByteRecord, columns: &[&str]) -> Cause
     }
 }
 
-fn cells_cause(own: Table, row: &ByteRecord, columns: &[&str]) -> Cause
-    ensures { result ≡ cells_cause own (map (λ c. c.now) columns.now) (fields_of row.now) }
+fn cells_cause(own: Table, row: &Record, columns: &[&str]) -> Cause
+    ensures { result ≡ cells_cause own (map (λ c. c.now) columns.now) row.now }
 {
-    if row.is_empty() {
+    if row.count() == 0 {
         return Cause::Empty;
     }
     if has_alone(b';', row) {
@@ -210,8 +195,8 @@ fn cells_cause(own: Table, row: &ByteRecord, columns: &[&str]) -> Cause
 }
 
 // Why a record is not the header of its table, by how the text begins and by its cells.
-fn cause_of(own: Table, row: &ByteRecord, columns: &[&str], front: Front) -> Cause
-    ensures { result ≡ cause_of own (map (λ c. c.now) columns.now) (fields_of row.now) front }
+fn cause_of(own: Table, row: &Record, columns: &[&str], front: Front) -> Cause
+    ensures { result ≡ cause_of own (map (λ c. c.now) columns.now) row.now front }
 {
     match front {
         Front::Utf16 => Cause::Utf16,
@@ -240,8 +225,8 @@ fn push_place(place: usize, text: &mut String) -> Result<(), AllocError>
 }
 
 // Adds what stands there.
-fn push_there(row: &ByteRecord, place: usize, text: &mut String) -> Result<(), AllocError>
-    ensures { OnOk result (string_bytes text.new ≡ string_bytes text.old ++ there_words (fields_of row.now) place) }
+fn push_there(row: &Record, place: usize, text: &mut String) -> Result<(), AllocError>
+    ensures { OnOk result (string_bytes text.new ≡ string_bytes text.old ++ there_words row.now place) }
 {
     push_place(place, text)?;
     text.push_str(" is ")?;
@@ -257,19 +242,19 @@ fn push_in_place(columns: &[&str], place: usize, text: &mut String) -> Result<()
 }
 
 fn push_differs(
-    row: &ByteRecord,
+    row: &Record,
     columns: &[&str],
     place: usize,
     text: &mut String,
 ) -> Result<(), AllocError>
-    ensures { OnOk result (string_bytes text.new ≡ string_bytes text.old ++ differs_words (map (λ c. c.now) columns.now) (fields_of row.now) place) }
+    ensures { OnOk result (string_bytes text.new ≡ string_bytes text.old ++ differs_words (map (λ c. c.now) columns.now) row.now place) }
 {
     push_there(row, place, text)?;
     push_in_place(columns, place, text)
 }
 
-fn push_excess(row: &ByteRecord, place: usize, text: &mut String) -> Result<(), AllocError>
-    ensures { OnOk result (string_bytes text.new ≡ string_bytes text.old ++ excess_words (fields_of row.now) place) }
+fn push_excess(row: &Record, place: usize, text: &mut String) -> Result<(), AllocError>
+    ensures { OnOk result (string_bytes text.new ≡ string_bytes text.old ++ excess_words row.now place) }
 {
     push_there(row, place, text)?;
     text.push_str(", which is too many")
@@ -291,8 +276,8 @@ pub(crate) fn push_commas(count: usize, text: &mut String) -> Result<(), AllocEr
     text.push_str(" too many at the end")
 }
 
-fn push_strange(row: &ByteRecord, text: &mut String) -> Result<(), AllocError>
-    ensures { OnOk result (string_bytes text.new ≡ string_bytes text.old ++ strange_words (fields_of row.now)) }
+fn push_strange(row: &Record, text: &mut String) -> Result<(), AllocError>
+    ensures { OnOk result (string_bytes text.new ≡ string_bytes text.old ++ strange_words row.now) }
 {
     text.push_str("no column's name is in this line, which begins with ")?;
     push_shown(cell_in(row, 0), text)
@@ -306,12 +291,12 @@ fn push_lacks(place: usize, text: &mut String) -> Result<(), AllocError>
 }
 
 fn push_cause(
-    row: &ByteRecord,
+    row: &Record,
     columns: &[&str],
     cause: Cause,
     text: &mut String,
 ) -> Result<(), AllocError>
-    ensures { OnOk result (string_bytes text.new ≡ string_bytes text.old ++ cause_words (map (λ c. c.now) columns.now) (fields_of row.now) cause) }
+    ensures { OnOk result (string_bytes text.new ≡ string_bytes text.old ++ cause_words (map (λ c. c.now) columns.now) row.now cause) }
 {
     match cause {
         Cause::Utf16 => text.push_str("the file is UTF-16 (save it as CSV UTF-8)"),
@@ -335,12 +320,12 @@ fn push_cause(
 // Adds what is said of a wrong header.
 pub(crate) fn push_header(
     own: Table,
-    row: &ByteRecord,
+    row: &Record,
     columns: &[&str],
     front: Front,
     text: &mut String,
 ) -> Result<(), AllocError>
-    ensures { OnOk result (string_bytes text.new ≡ string_bytes text.old ++ header_words own (map (λ c. c.now) columns.now) (fields_of row.now) front) }
+    ensures { OnOk result (string_bytes text.new ≡ string_bytes text.old ++ header_words own (map (λ c. c.now) columns.now) row.now front) }
 {
     push_cause(row, columns, cause_of(own, row, columns, front), text)
 }

@@ -1,15 +1,14 @@
 //! What is said of a record as a whole.
 
 ghost use Rattle.std.specs.Prelude.{◌≡◌, ◌++◌, OnOk, string_bytes};
-ghost use Rattle.csv.specs.Records.{fields_of};
 ghost use Rattle.mrp_advice.specs.Records.{at_most_words, blank_words, cells_counted, columns_words, few_words, has_line_end, last_words, many_words, missing_words, quote_words, row_words, run_words, too_many_words, wanted_words};
 
 use crate::expected::among_words;
-use crate::header::{are_empty_from, push_commas};
+use crate::header::push_commas;
 use crate::sign::push_shown;
 use crate::text::{push_counted, push_number};
-use csv::ByteRecord;
-use mrp_survey::{Words, cell_in};
+use mrp_rows::{Record, is_line_end};
+use mrp_survey::{Words, are_empty_from, cell_in};
 use std::alloc::AllocError;
 
 // Adds that records up to one that begins in this line have empty cells alone.
@@ -34,7 +33,7 @@ pub(crate) fn push_blank(first: u64, last: u64, text: &mut String) -> Result<(),
 fn has_line_end(cell: &[u8]) -> bool
     ensures { result ≡ has_line_end cell.now }
 {
-    cell.iter().any(|byte| *byte == b'\n' || *byte == b'\r')
+    cell.iter().any(|byte| is_line_end(*byte))
 }
 
 // What is said of a quote that was left open.
@@ -59,18 +58,18 @@ fn push_last(cell: &[u8], text: &mut String) -> Result<(), AllocError>
     text.push_str(quote_words(cell))
 }
 
-fn push_few(row: &ByteRecord, text: &mut String) -> Result<(), AllocError>
-    ensures { OnOk result (string_bytes text.new ≡ string_bytes text.old ++ few_words (fields_of row.now)) }
+fn push_few(row: &Record, text: &mut String) -> Result<(), AllocError>
+    ensures { OnOk result (string_bytes text.new ≡ string_bytes text.old ++ few_words row.now) }
 {
-    let count = row.len();
+    let count = row.count();
     push_counted(count as u64, "cell", text)?;
     push_last(cell_in(row, count.saturating_sub(1)), text)
 }
 
-fn push_many(row: &ByteRecord, wanted: usize, text: &mut String) -> Result<(), AllocError>
-    ensures { OnOk result (string_bytes text.new ≡ string_bytes text.old ++ many_words wanted (fields_of row.now)) }
+fn push_many(row: &Record, wanted: usize, text: &mut String) -> Result<(), AllocError>
+    ensures { OnOk result (string_bytes text.new ≡ string_bytes text.old ++ many_words wanted row.now) }
 {
-    let count = row.len();
+    let count = row.count();
     if are_empty_from(row, wanted) {
         return push_commas(count.saturating_sub(wanted), text);
     }
@@ -79,14 +78,10 @@ fn push_many(row: &ByteRecord, wanted: usize, text: &mut String) -> Result<(), A
 }
 
 // Adds that a record has another count of cells than is wanted.
-pub(crate) fn push_columns(
-    row: &ByteRecord,
-    wanted: usize,
-    text: &mut String,
-) -> Result<(), AllocError>
-    ensures { OnOk result (string_bytes text.new ≡ string_bytes text.old ++ columns_words wanted (fields_of row.now)) }
+pub(crate) fn push_columns(row: &Record, wanted: usize, text: &mut String) -> Result<(), AllocError>
+    ensures { OnOk result (string_bytes text.new ≡ string_bytes text.old ++ columns_words wanted row.now) }
 {
-    if wanted < row.len() {
+    if wanted < row.count() {
         push_many(row, wanted, text)
     } else {
         push_few(row, text)

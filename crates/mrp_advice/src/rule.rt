@@ -1,20 +1,18 @@
 //! What is said of a record beside others.
 
 ghost use Rattle.std.specs.Prelude.{◌≡◌, ◌++◌, OnOk, option_map, string_bytes};
-ghost use Rattle.csv.specs.Records.{fields_of};
 ghost use Rattle.mrp_advice.specs.Rules.{like_words, of_item, once_words, outside_told, outside_words, overdue_words, own_words, range_words, receipt_range, repeated_words, side, unknown_words, within_told, within_words};
 
 use crate::date::{ends_of, is_before, push_date};
 use crate::sign::push_shown;
 use crate::text::{push_number, push_of};
-use csv::ByteRecord;
 use mrp_cal::Calendar;
-use mrp_rows::{Name, Table};
+use mrp_rows::{Name, Record, Table};
 use mrp_survey::cell_in;
 use std::alloc::{AllocError, Global};
 
-fn push_of_item(row: &ByteRecord, column: usize, text: &mut String) -> Result<(), AllocError>
-    ensures { OnOk result (string_bytes text.new ≡ string_bytes text.old ++ of_item (fields_of row.now) column) }
+fn push_of_item(row: &Record, column: usize, text: &mut String) -> Result<(), AllocError>
+    ensures { OnOk result (string_bytes text.new ≡ string_bytes text.old ++ of_item row.now column) }
 {
     push_shown(cell_in(row, column), text)?;
     text.push_str(" of ")?;
@@ -22,13 +20,8 @@ fn push_of_item(row: &ByteRecord, column: usize, text: &mut String) -> Result<()
 }
 
 // Adds what a record has to itself.
-fn push_own(
-    table: Table,
-    row: &ByteRecord,
-    column: usize,
-    text: &mut String,
-) -> Result<(), AllocError>
-    ensures { OnOk result (string_bytes text.new ≡ string_bytes text.old ++ own_words table (fields_of row.now) column) }
+fn push_own(table: Table, row: &Record, column: usize, text: &mut String) -> Result<(), AllocError>
+    ensures { OnOk result (string_bytes text.new ≡ string_bytes text.old ++ own_words table row.now column) }
 {
     match table {
         Table::Receipts | Table::Routings => push_of_item(row, column, text),
@@ -39,12 +32,12 @@ fn push_own(
 // Adds that an earlier record, in this line, has what a record has to itself.
 pub(crate) fn push_repeated(
     table: Table,
-    row: &ByteRecord,
+    row: &Record,
     column: usize,
     line: u64,
     text: &mut String,
 ) -> Result<(), AllocError>
-    ensures { OnOk result (string_bytes text.new ≡ string_bytes text.old ++ repeated_words table (fields_of row.now) column line) }
+    ensures { OnOk result (string_bytes text.new ≡ string_bytes text.old ++ repeated_words table row.now column line) }
 {
     push_own(table, row, column, text)?;
     text.push_str(" stands in line ")?;

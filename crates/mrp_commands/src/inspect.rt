@@ -46,7 +46,7 @@ fn tell_inspected<W: Write>(inspected: &Result<Inspected, NoMemory>, output: &mu
 
 // Inspects the files of a folder.
 fn inspect_folder<F: FileStore, W: Write>(
-    rt: &impl Threads,
+    rt: &(impl Threads + Sync),
     alloc: Global,
     files: &F,
     folder: &str,
@@ -66,7 +66,7 @@ fn inspect_folder<F: FileStore, W: Write>(
 /// Inspects the files of the folder that is named, writes what is told of them to the output, and returns
 /// how that ended.
 pub fn inspect_asked<F: FileStore, W: Write>(
-    rt: &impl Threads,
+    rt: &(impl Threads + Sync),
     alloc: Global,
     files: &F,
     folder: &Option<String>,

@@ -8,8 +8,8 @@ use Rattle.mrp_rows.specs.declared.streams.ReadFault.TheVariants.{Read, NoMemory
 use Rattle.mrp_rows.specs.Joined.{Part}
 use Rattle.mrp_words.specs.Folder.{AreParts, HasTooMuch, IsThere, Known, all_tables}
 use Rattle.mrp_inspect.specs.declared.found.Found.{Found}
-use Rattle.mrp_inspect.specs.declared.found.Site.{Site}
-use Rattle.mrp_inspect.specs.declared.found.Site.TheVariants.{Absent, File, Folder}
+use Rattle.mrp_inspect.specs.declared.found.PathKind.{PathKind}
+use Rattle.mrp_inspect.specs.declared.found.PathKind.TheVariants.{Absent, File, Folder}
 use Rattle.mrp_inspect.specs.declared.names.Naming.{Naming}
 use Rattle.mrp_inspect.specs.Names.{all_namings, other_name}
 use Rattle.mrp_inspect.specs.Pieces.{same_table}
@@ -50,10 +50,10 @@ abbrev pub own_path : List ℕ → List ℕ
 own_path folder = path_join folder (codes ".")
 
 -- what is at the path of a folder
-abbrev pub IsSite : Known → List ℕ → Site → Type 0
-IsSite known folder File = IsThere known (own_path folder) false × IsThere known folder true
-IsSite known folder Absent = IsThere known (own_path folder) false × IsThere known folder false
-IsSite known folder Folder = (folder ≡ []) ⊎ IsThere known (own_path folder) true
+abbrev pub IsPathKind : Known → List ℕ → PathKind → Type 0
+IsPathKind known folder File = IsThere known (own_path folder) false × IsThere known folder true
+IsPathKind known folder Absent = IsThere known (own_path folder) false × IsThere known folder false
+IsPathKind known folder Folder = (folder ≡ []) ⊎ IsThere known (own_path folder) true
 
 -- no table has a file, under any name
 abbrev pub are_none : {T : Type 0} → List T → List (Option Naming) → Bool
@@ -63,14 +63,14 @@ abbrev pub is_bare : Found → Bool
 is_bare found = are_none found.tables.items found.others.items
 
 -- it is looked at only where no table has a file
-abbrev pub IsSiteIf : Bool → Known → List ℕ → Site → Type 0
-IsSiteIf true known folder site = IsSite known folder site
-IsSiteIf false known folder site = site ≡ Folder
+abbrev pub IsPathKindIf : Bool → Known → List ℕ → PathKind → Type 0
+IsPathKindIf true known folder path_kind = IsPathKind known folder path_kind
+IsPathKindIf false known folder path_kind = path_kind ≡ Folder
 
 -- what is there in place of the files that a folder does not have
 pub record FindsBeside (known : Known) (folder : List ℕ) (found : Found) : Type 0 where
   pub others : AreOthers known folder found.tables.items found.others.items
-  pub site : IsSiteIf (is_bare found) known folder found.site
+  pub path_kind : IsPathKindIf (is_bare found) known folder found.path_kind
 
 -- what was found in a folder
 pub record IsFound (known : Known) (folder : List ℕ) (found : Found) : Type 0 where

@@ -6,8 +6,8 @@ use Rattle.mrp_rows.specs.Tables.{table_index}
 use Rattle.mrp_rows.specs.declared.fault.Table.{Table}
 use Rattle.mrp_advice.specs.Shown.{shown}
 use Rattle.mrp_words.specs.Folder.{all_tables}
-use Rattle.mrp_inspect.specs.declared.found.Site.{Site}
-use Rattle.mrp_inspect.specs.declared.found.Site.TheVariants.{Absent, File, Folder}
+use Rattle.mrp_inspect.specs.declared.found.PathKind.{PathKind}
+use Rattle.mrp_inspect.specs.declared.found.PathKind.TheVariants.{Absent, File, Folder}
 use Rattle.mrp_inspect.specs.declared.names.Naming.{Naming}
 use Rattle.mrp_inspect.specs.declared.stray.Reason.{Reason}
 use Rattle.mrp_inspect.specs.declared.stray.Reason.TheVariants.{Again, NoTable, OfFile}
@@ -45,14 +45,14 @@ abbrev pub missing_of : List (Option ℕ) → List (Option Naming) → Table →
 missing_of firsts others table = missing_at table (slice_index_or others (table_index table) None) (first_among firsts table)
 
 -- what a folder's path has in place of the tables
-abbrev pub site_words : Site → List ℕ
-site_words File = codes "this is a file and no folder (a bundle is planned by mrp plan < FILE)"
-site_words Absent = codes "there is no such folder"
-site_words Folder = codes "none of the nine tables is there"
+abbrev pub path_words : PathKind → List ℕ
+path_words File = codes "this is a file and no folder (a bundle is planned by mrp plan < FILE)"
+path_words Absent = codes "there is no such folder"
+path_words Folder = codes "none of the nine tables is there"
 
-abbrev pub site_text : Site → List ℕ
-site_text site =
-    codes ".:0: folder: " ++ (site_words site ++ codes "; expected a folder with calendar.csv, items.csv, centres.csv, stock.csv, receipts.csv, bills.csv, routings.csv, master.csv, script.csv")
+abbrev pub path_text : PathKind → List ℕ
+path_text path_kind =
+    codes ".:0: folder: " ++ (path_words path_kind ++ codes "; expected a folder with calendar.csv, items.csv, centres.csv, stock.csv, receipts.csv, bills.csv, routings.csv, master.csv, script.csv")
 
 -- the lines of what is wrong with files
 abbrev pub file_lines : List FilePiece → List (Option Naming) → List (List ℕ)

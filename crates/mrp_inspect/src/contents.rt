@@ -5,19 +5,8 @@ ghost use Rattle.mrp_rows.specs.Joined.{Part, joined, section_bytes, section_of}
 ghost use Rattle.mrp_inspect.specs.Pieces.{content_of};
 
 use mrp_qty::NoMemory;
-use mrp_rows::{Table, join_bundle};
+use mrp_rows::Table;
 use std::alloc::Global;
-
-// The bundle of files.
-pub(crate) fn bundle_of(alloc: Global, tables: &[(Table, Vec<u8>)]) -> Result<Vec<u8>, NoMemory>
-    ensures { IfOk result (λ bundle. bundle.items ≡ joined (map (λ part. (part.0, part.1.items)) tables.now)) }
-{
-    let mut parts = Vec::with_capacity(alloc, tables.len())?;
-    for (table, bytes) in tables {
-        parts.push((*table, bytes.as_slice()))?;
-    }
-    join_bundle(alloc, &parts)
-}
 
 // The text of a file whose section is the next of a bundle, and what follows it.
 fn next_content<'a>(bundle: &'a [u8], table: Table, bytes: &[u8]) -> (&'a [u8], &'a [u8])

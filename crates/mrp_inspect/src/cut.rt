@@ -9,8 +9,7 @@ ghost use Rattle.mrp_inspect.specs.Pieces.{piece_from, pieces_behind, pieces_in}
 use crate::lines::Counter;
 use crate::piece::Piece;
 use mrp_qty::NoMemory;
-use mrp_rows::Table;
-use mrp_survey::is_line_end;
+use mrp_rows::{Table, is_line_end};
 use std::alloc::Global;
 
 // Whether a line begins at a place.

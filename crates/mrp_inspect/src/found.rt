@@ -4,7 +4,7 @@ ghost use Rattle.std.specs.Prelude.{◌≡◌, IfOk, is_none};
 ghost use Rattle.std.specs.List.{list_all};
 ghost use Rattle.std.specs.Path.{path_buf_bytes};
 ghost use Rattle.mrp_words.specs.Folder.{IsThere};
-ghost use Rattle.mrp_inspect.specs.Found.{AreOthers, Finds, FindsBeside, IsSite, IsSiteIf, IsOther, IsOtherBeside, are_none, has_part, is_bare, other_path, own_path};
+ghost use Rattle.mrp_inspect.specs.Found.{AreOthers, Finds, FindsBeside, IsPathKind, IsPathKindIf, IsOther, IsOtherBeside, are_none, has_part, is_bare, other_path, own_path};
 
 use crate::names::{NAMINGS, Naming, other_name};
 use crate::piece::same_table;
@@ -17,7 +17,7 @@ use std::path::{Path, PathBuf};
 
 /// What is at the path of a folder that has none of the tables.
 #[derive(Clone, Copy)]
-pub enum Site {
+pub enum PathKind {
     /// A folder.
     Folder,
     /// A file.
@@ -34,7 +34,7 @@ pub struct Found {
     /// Of each table without a file, the first other name under which there is one, in the order of the tables.
     pub others: Vec<Option<Naming>>,
     /// What is at the folder's path, where no table has a file under any name.
-    pub site: Site,
+    pub path_kind: PathKind,
 }
 
 // The path of a table's file under another name.
@@ -138,21 +138,21 @@ fn is_folder<F: FileStore>(files: &F, alloc: Global, folder: &str) -> Result<boo
 }
 
 // What is at the path of a folder.
-fn site_of<F: FileStore>(files: &F, alloc: Global, folder: &str) -> Result<Site, NoMemory>
-    ensures { IfOk result (IsSite (F.known files.now) folder.now) }
+fn path_kind_of<F: FileStore>(files: &F, alloc: Global, folder: &str) -> Result<PathKind, NoMemory>
+    ensures { IfOk result (IsPathKind (F.known files.now) folder.now) }
 {
     if folder.is_empty() {
-        return Ok(Site::Folder);
+        return Ok(PathKind::Folder);
     }
     let folder_is_there = is_folder(files, alloc, folder)?;
     if folder_is_there {
-        return Ok(Site::Folder);
+        return Ok(PathKind::Folder);
     }
     let file_is_there = files.can_be_opened(folder);
     if file_is_there {
-        Ok(Site::File)
+        Ok(PathKind::File)
     } else {
-        Ok(Site::Absent)
+        Ok(PathKind::Absent)
     }
 }
 
@@ -178,18 +178,18 @@ pub(crate) fn is_bare(found: &Found) -> bool
 }
 
 // What is at the path of a folder, if no table has a file, under any name.
-fn site_if<F: FileStore>(
+fn path_kind_if<F: FileStore>(
     files: &F,
     alloc: Global,
     folder: &str,
     bare: bool,
-) -> Result<Site, NoMemory>
-    ensures { IfOk result (IsSiteIf bare (F.known files.now) folder.now) }
+) -> Result<PathKind, NoMemory>
+    ensures { IfOk result (IsPathKindIf bare (F.known files.now) folder.now) }
 {
     if bare {
-        site_of(files, alloc, folder)
+        path_kind_of(files, alloc, folder)
     } else {
-        Ok(Site::Folder)
+        Ok(PathKind::Folder)
     }
 }
 
@@ -203,11 +203,11 @@ fn find_rest<F: FileStore>(
     ensures { IfOk result (λ found. (found.tables ≡ tables) × FindsBeside (F.known files.now) folder.now found) }
 {
     let others = find_others(files, alloc, folder, &tables)?;
-    let site = site_if(files, alloc, folder, are_none(&tables, &others))?;
+    let path_kind = path_kind_if(files, alloc, folder, are_none(&tables, &others))?;
     Ok(Found {
         tables,
         others,
-        site,
+        path_kind,
     })
 }
 

@@ -1,32 +1,37 @@
 //! Telling what is wrong with the tables of a folder, or what is odd.
 
-ghost use Rattle.std.specs.Prelude.{◌≡◌, ◌++◌, ◌∷◌, [], IfOk, OnOk, filter_map, map, string_bytes};
+ghost use Rattle.std.specs.Prelude.{◌≡◌, ◌++◌, ◌∷◌, [], ℕ, IfOk, List, OnOk, Option, filter_map, map, string_bytes};
+ghost use Rattle.mrp_script.specs.Opened.{Opens};
+ghost use Rattle.mrp_survey.specs.declared.source.Source.{Source};
 ghost use Rattle.mrp_advice.specs.Lines.{survey_lines};
 ghost use Rattle.mrp_advice.specs.Listing.{listed_in, with_lines};
 ghost use Rattle.mrp_words.specs.Folder.{all_tables};
 ghost use Rattle.mrp_inspect.specs.Faults.{lines_if, lines_of};
 ghost use Rattle.mrp_inspect.specs.Found.{parts_of};
-ghost use Rattle.mrp_inspect.specs.Inspected.{Inspects, IsFaultsText, Tells, bundle_in};
-ghost use Rattle.mrp_inspect.specs.Words.{site_text, missing_of, stray_text};
+ghost use Rattle.mrp_inspect.specs.Inspected.{Inspects, IsFaultsText, IsSurveyOf, Tells, bundle_in};
+ghost use Rattle.mrp_inspect.specs.Words.{path_text, missing_of, stray_text};
 ghost use Rattle.mrp_inspect.specs.Pieces.{pieces_of};
 ghost use Rattle.mrp_inspect.specs.Strays.{firsts_of, strays_of};
 
-use crate::contents::{bundle_of, contents_of};
+use crate::contents::contents_of;
 use crate::cut::cut_files;
 use crate::faults::{remark_text, told_text};
-use crate::found::{Found, Site, is_bare};
+use crate::found::{Found, PathKind, is_bare};
 use crate::names::Naming;
 use crate::piece::Piece;
 use crate::source::sources_of;
 use crate::stray::{Stray, firsts_of, strays_of};
 use crate::warning::warnings_of;
-use crate::words::{push_files, site_text};
+use crate::words::{path_text, push_files};
 use mrp_advice::{Listing, push_survey};
+use mrp_bill::Shop;
 use mrp_qty::NoMemory;
 use mrp_rows::Fault;
 use mrp_script::{OpenFault, open_shop};
 use mrp_survey::{Source, Survey, survey};
+use mrp_words::join_tables;
 use std::alloc::Global;
+use std::thread;
 use std::thread::Threads;
 
 /// What is told of a folder's files.
@@ -40,10 +45,10 @@ pub struct Inspected {
 
 // Adds the line of a folder that has none of the tables.
 #[tactic(auto, using(mrp_advice::proofs::Listings::one_line))]
-fn push_bare(alloc: Global, site: Site, lines: &mut Listing) -> Result<(), NoMemory>
-    ensures { OnOk result (listed_in lines.new ≡ with_lines (listed_in lines.old) (site_text site ∷ [])) }
+fn push_bare(alloc: Global, path_kind: PathKind, lines: &mut Listing) -> Result<(), NoMemory>
+    ensures { OnOk result (listed_in lines.new ≡ with_lines (listed_in lines.old) (path_text path_kind ∷ [])) }
 {
-    let line = site_text(alloc, site)?;
+    let line = path_text(alloc, path_kind)?;
     lines.push(line.as_str())?;
     Ok(())
 }
@@ -67,17 +72,17 @@ fn push_all(
 fn push_if(
     alloc: Global,
     bare: bool,
-    site: Site,
+    path_kind: PathKind,
     firsts: &[Option<usize>],
     strays: &[Stray<'_>],
     others: &[Option<Naming>],
     survey: &Survey,
     lines: &mut Listing,
 ) -> Result<(), NoMemory>
-    ensures { OnOk result (listed_in lines.new ≡ with_lines (listed_in lines.old) (lines_if bare site (map stray_text strays.now ++ filter_map (missing_of firsts.now others.now) all_tables) (survey_lines survey.now))) }
+    ensures { OnOk result (listed_in lines.new ≡ with_lines (listed_in lines.old) (lines_if bare path_kind (map stray_text strays.now ++ filter_map (missing_of firsts.now others.now) all_tables) (survey_lines survey.now))) }
 {
     if bare {
-        push_bare(alloc, site, lines)
+        push_bare(alloc, path_kind, lines)
     } else {
         push_all(alloc, firsts, strays, others, survey, lines)
     }
@@ -99,34 +104,96 @@ fn push_told(
     let bare = is_bare(found);
     let others = found.others.as_slice();
     push_if(
-        alloc, bare, found.site, firsts, strays, others, survey, lines,
+        alloc,
+        bare,
+        found.path_kind,
+        firsts,
+        strays,
+        others,
+        survey,
+        lines,
     )
 }
 
-// The faults of tables that are refused.
+// The faults of tables that are refused, by a survey of their texts.
 fn faults_of(
-    rt: &impl Threads,
     alloc: Global,
     found: &Found,
     firsts: &[Option<usize>],
     strays: &[Stray<'_>],
-    sources: &[Option<Source<'_>>; 9],
+    survey: &Survey,
     fault: &Fault,
 ) -> Result<String, NoMemory>
     requires firsts { firsts.now ≡ firsts_of (pieces_of (parts_of found.now)) }
     requires strays { strays.now ≡ strays_of (pieces_of (parts_of found.now)) }
-    ensures { IfOk result (λ text. IsFaultsText found.now sources.now fault.now (string_bytes text)) }
+    ensures { (sources : List (Option Source)) → IsSurveyOf sources survey.now → IfOk result (λ text. IsFaultsText found.now sources fault.now (string_bytes text)) }
 {
-    let survey = survey(rt, alloc, sources)?;
     let remark = remark_text(alloc, fault)?;
     let mut lines = Listing::new(alloc, remark);
-    push_told(alloc, found, firsts, strays, &survey, &mut lines)?;
+    push_told(alloc, found, firsts, strays, survey, &mut lines)?;
     told_text(alloc, lines, fault)
+}
+
+// A survey of the texts of tables.
+fn survey_of(
+    rt: &impl Threads,
+    alloc: Global,
+    sources: &[Option<Source<'_>>; 9],
+) -> Result<Survey, NoMemory>
+    ensures { IfOk result (IsSurveyOf sources.now) }
+{
+    survey(rt, alloc, sources)
+}
+
+// The shop of a bundle, and a survey of the texts of its tables, in two threads if a second one can be started: a folder that
+// is inspected mostly has a fault, and then both are needed.
+fn open_and_survey(
+    rt: &(impl Threads + Sync),
+    alloc: Global,
+    bundle: &[u8],
+    sources: &[Option<Source<'_>>; 9],
+) -> (Result<Survey, NoMemory>, Result<Shop, OpenFault>)
+    ensures surveyed { IfOk result.0 (IsSurveyOf sources.now) }
+    ensures opened { Opens bundle.now result.1 }
+{
+    let tell = move || -> Result<Survey, NoMemory>
+        ensures { IfOk result (IsSurveyOf sources.entry.now) }
+    { survey_of(rt, alloc, sources) };
+    let open = move || -> Result<Shop, OpenFault>
+        ensures { Opens bundle.entry.now result }
+    { open_shop(rt, alloc, bundle) };
+    thread::join(rt, tell, open)
+}
+
+// What is told where tables are refused, with a survey of their texts.
+fn inspect_refused(
+    alloc: Global,
+    found: &Found,
+    firsts: &[Option<usize>],
+    strays: &[Stray<'_>],
+    survey: &Survey,
+    why: OpenFault,
+) -> Result<Inspected, NoMemory>
+    requires firsts { firsts.now ≡ firsts_of (pieces_of (parts_of found.now)) }
+    requires strays { strays.now ≡ strays_of (pieces_of (parts_of found.now)) }
+    ensures { (bundle : List ℕ) (sources : List (Option Source)) → Opens bundle (Err why) → IsSurveyOf sources survey.now
+        → IfOk result (λ inspected. Tells inspected.has_faults bundle found.now sources (string_bytes inspected.text)) }
+{
+    match why {
+        OpenFault::Refused(fault) => {
+            let told = faults_of(alloc, found, firsts, strays, survey, &fault)?;
+            Ok(Inspected {
+                text: told,
+                has_faults: true,
+            })
+        }
+        OpenFault::NoMemory => Err(NoMemory),
+    }
 }
 
 // What is told where tables are accepted, or refused.
 fn inspect_sources(
-    rt: &impl Threads,
+    rt: &(impl Threads + Sync),
     alloc: Global,
     found: &Found,
     bundle: &[u8],
@@ -138,28 +205,24 @@ fn inspect_sources(
     requires strays { strays.now ≡ strays_of (pieces_of (parts_of found.now)) }
     ensures { IfOk result (λ inspected. Tells inspected.has_faults bundle.now found.now sources.now (string_bytes inspected.text)) }
 {
-    match open_shop(rt, alloc, bundle) {
+    let (surveyed, opened) = open_and_survey(rt, alloc, bundle, sources);
+    let survey = surveyed?;
+    match opened {
         Ok(shop) => {
+            drop(survey);
             let text = warnings_of(alloc, bundle, &shop, sources)?;
             Ok(Inspected {
                 text,
                 has_faults: false,
             })
         }
-        Err(OpenFault::Refused(fault)) => {
-            let told = faults_of(rt, alloc, found, firsts, strays, sources, &fault)?;
-            Ok(Inspected {
-                text: told,
-                has_faults: true,
-            })
-        }
-        Err(OpenFault::NoMemory) => Err(NoMemory),
+        Err(why) => inspect_refused(alloc, found, firsts, strays, &survey, why),
     }
 }
 
 // The same, by the pieces of the files.
 fn inspect_pieces(
-    rt: &impl Threads,
+    rt: &(impl Threads + Sync),
     alloc: Global,
     found: &Found,
     bundle: &[u8],
@@ -187,14 +250,18 @@ fn inspect_pieces(
 /// all faults, each with its file, line and column, with what planning says behind the first; where they are
 /// accepted tells warnings of what is odd. Nothing is planned.
 ///
-/// Tables are read, and surveyed, in two threads if a second one can be started.
+/// Tables are read and at the same time surveyed, in up to four threads, as many as can be started.
 ///
 /// Errors: `NoMemory` if an allocation fails.
-pub fn inspect(rt: &impl Threads, alloc: Global, found: &Found) -> Result<Inspected, NoMemory>
+pub fn inspect(
+    rt: &(impl Threads + Sync),
+    alloc: Global,
+    found: &Found,
+) -> Result<Inspected, NoMemory>
     ensures { IfOk result (Inspects found.now) }
 {
     let tables = found.tables.as_slice();
-    let bundle = bundle_of(alloc, tables)?;
+    let bundle = join_tables(alloc, tables)?;
     let contents = contents_of(alloc, bundle.as_slice(), tables)?;
     let pieces = cut_files(alloc, contents.as_slice())?;
     inspect_pieces(rt, alloc, found, bundle.as_slice(), pieces.as_slice())

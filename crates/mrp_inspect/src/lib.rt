@@ -16,6 +16,6 @@ mod stray;
 mod warning;
 mod words;
 
-pub use found::{Found, Site, find_files};
+pub use found::{Found, PathKind, find_files};
 pub use inspecting::{Inspected, inspect};
 pub use names::Naming;

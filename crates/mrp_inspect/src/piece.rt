@@ -6,8 +6,8 @@ ghost use Rattle.mrp_rows.specs.Bundle.{ends_line, table_of};
 ghost use Rattle.mrp_inspect.specs.Pieces.{same_table, table_begun};
 
 use crate::lines::Counter;
-use mrp_rows::Table;
-use mrp_survey::{Source, is_line_end};
+use mrp_rows::{Table, is_line_end};
+use mrp_survey::Source;
 use std::marker::Model;
 
 // A piece of a file.

@@ -6,9 +6,9 @@ ghost use Rattle.mrp_rows.specs.Tables.{table_index};
 ghost use Rattle.std.specs.Option.{option_to_list};
 ghost use Rattle.mrp_advice.specs.Listing.{listed_in, with_line, with_lines};
 ghost use Rattle.mrp_words.specs.Folder.{all_tables};
-ghost use Rattle.mrp_inspect.specs.Words.{site_text, site_words, missing_of, missing_text, other_words, reason_words, stray_text};
+ghost use Rattle.mrp_inspect.specs.Words.{path_text, path_words, missing_of, missing_text, other_words, reason_words, stray_text};
 
-use crate::found::Site;
+use crate::found::PathKind;
 use crate::names::{Naming, other_name};
 use crate::stray::{Reason, Stray, TABLES, first_among};
 use mrp_advice::{Listing, shown};
@@ -68,29 +68,29 @@ fn missing_text(alloc: Global, table: Table, other: Option<Naming>) -> Result<St
     format!(in alloc; "{name}.csv:0: file: there is no such file{but}; expected a file {name}.csv")
 }
 
-impl Site {
+impl PathKind {
     ghost use Rattle.std.specs.Prelude.{◌≡◌};
-    ghost use Rattle.mrp_inspect.specs.Words.{site_words};
+    ghost use Rattle.mrp_inspect.specs.Words.{path_words};
 
     // What a folder's path has in place of the tables.
     fn words(self) -> &'static str
-        ensures { result.now ≡ site_words self }
+        ensures { result.now ≡ path_words self }
     {
         match self {
-            Site::File => {
+            PathKind::File => {
                 "this is a file and no folder (a bundle is planned by mrp plan < FILE)"
             }
-            Site::Absent => "there is no such folder",
-            Site::Folder => "none of the nine tables is there",
+            PathKind::Absent => "there is no such folder",
+            PathKind::Folder => "none of the nine tables is there",
         }
     }
 }
 
 // The line of a folder that has none of the tables.
-pub(crate) fn site_text(alloc: Global, site: Site) -> Result<String, AllocError>
-    ensures { IfOk result (λ text. string_bytes text ≡ site_text site) }
+pub(crate) fn path_text(alloc: Global, path_kind: PathKind) -> Result<String, AllocError>
+    ensures { IfOk result (λ text. string_bytes text ≡ path_text path_kind) }
 {
-    let what = site.words();
+    let what = path_kind.words();
     format!(in alloc;
         ".:0: folder: {what}; expected a folder with calendar.csv, items.csv, centres.csv, stock.csv, receipts.csv, bills.csv, routings.csv, master.csv, script.csv"
     )

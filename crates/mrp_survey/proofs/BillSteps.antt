@@ -16,28 +16,28 @@ use Rattle.mrp_survey.specs.declared.form.Form.{Form}
 use Rattle.mrp_survey.specs.BillLines.{bill_line, known_place, line_of, lines_from, within_limit}
 use Rattle.mrp_survey.specs.Entry.{Entry}
 use Rattle.mrp_survey.specs.Entries.{name_in}
-use Rattle.mrp_survey.specs.Forms.{Row}
+use Rattle.mrp_survey.specs.Forms.{AllCells}
 use Rattle.mrp_survey.specs.Loops.{count_of, edges_of}
 use Rattle.mrp_survey.specs.Names.{Names, place_among}
 use Rattle.mrp_survey.specs.Records.{Records}
 use Rattle.mrp_survey.specs.Tables.{entry_at, width_of}
 
 -- a record more
-pub lines-further : (form : Form) (records : Records) (items : Option Names) (n : ℕ) (cells : Row) (rest rows : List Row) (line : Option BillLine) (width : ℕ) (entry : Entry) (whole now more : List BillLine)
+pub lines-further : (form : Form) (records : Records) (items : Option Names) (n : ℕ) (cells : AllCells) (rest rows : List AllCells) (line : Option BillLine) (width : ℕ) (entry : Entry) (whole now more : List BillLine)
     → rows ≡ cells ∷ rest → width ≡ width_of form → entry ≡ entry_at form records n cells → line ≡ bill_line width items entry → more ≡ now ++ option_to_list line
     → whole ≡ now ++ lines_from form items records n rows → whole ≡ more ++ lines_from form items records (n + 1) rest
 unfolding lines_from
 lines-further form records items n cells rest rows line width entry whole now more is width_is entry_is line_is grown so_far =
     let step : lines_from form items records n (cells ∷ rest) ≡ option_to_list line ++ lines_from form items records (n + 1) rest = rw (line_is, width_is, entry_is) refl in
-    so_far ∙ ap (λ (r : List Row). now ++ lines_from form items records n r) is
+    so_far ∙ ap (λ (r : List AllCells). now ++ lines_from form items records n r) is
     ∙ ap (λ (t : List BillLine). now ++ t) step
     ∙ sym (append_assoc now (option_to_list line) (lines_from form items records (n + 1) rest))
     ∙ ap (λ (t : List BillLine). t ++ lines_from form items records (n + 1) rest) (sym grown)
 
 -- no record more
-pub lines-all : (form : Form) (records : Records) (items : Option Names) (n : ℕ) (rows : List Row) (whole now : List BillLine) → rows ≡ [] → whole ≡ now ++ lines_from form items records n rows → now ≡ whole
+pub lines-all : (form : Form) (records : Records) (items : Option Names) (n : ℕ) (rows : List AllCells) (whole now : List BillLine) → rows ≡ [] → whole ≡ now ++ lines_from form items records n rows → now ≡ whole
 unfolding lines_from
-lines-all form records items n rows whole now none so_far = sym (so_far ∙ ap (λ (r : List Row). now ++ lines_from form items records n r) none ∙ append-nil now)
+lines-all form records items n rows whole now none so_far = sym (so_far ∙ ap (λ (r : List AllCells). now ++ lines_from form items records n r) none ∙ append-nil now)
 
 -- a known item's place is one
 place-within : (items : Option Names) (name : Option (List ℕ)) (place : ℕ) → option_and_then (λ names. option_and_then (place_among names) name) items ≡ Some place → place < count_of items
@@ -63,7 +63,7 @@ line-within width items entry = by _
     by true = one-within items entry.place.number (known_place items entry 0) (known_place items entry 1) (place-within items (name_in entry 0)) (place-within items (name_in entry 1))
     by false = All-nil (IsWithin items)
 
-all-within : (form : Form) (items : Option Names) (records : Records) (n : ℕ) (rows : List Row) → All (IsWithin items) (lines_from form items records n rows)
+all-within : (form : Form) (items : Option Names) (records : Records) (n : ℕ) (rows : List AllCells) → All (IsWithin items) (lines_from form items records n rows)
 unfolding lines_from
 all-within form items records n [] = All-nil (IsWithin items)
 all-within form items records n (row ∷ rows) =
@@ -71,40 +71,40 @@ all-within form items records n (row ∷ rows) =
     (line-within (width_of form) items (entry_at form records n row)) (all-within form items records (n + 1) rows)
 
 -- the places of bill lines are those of known items
-pub edges-within : (form : Form) (items : Option Names) (records : Records) (n : ℕ) (rows : List Row) (lines : List BillLine) → lines ≡ lines_from form items records n rows → AreWithin (count_of items) (edges_of lines)
+pub edges-within : (form : Form) (items : Option Names) (records : Records) (n : ℕ) (rows : List AllCells) (lines : List BillLine) → lines ≡ lines_from form items records n rows → AreWithin (count_of items) (edges_of lines)
 edges-within form items records n rows lines is =
     rw is (All-map (λ (line : Line). (line.parent < count_of items) × (line.component < count_of items)) (λ (l : BillLine). l.line) (lines_from form items records n rows) (all-within form items records n rows))
 
 -- the records within a limit, of those from one of this number on
-abbrev pub within_left : Option ℕ → ℕ → List Row → List Row
+abbrev pub within_left : Option ℕ → ℕ → List AllCells → List AllCells
 within_left (Some limit) number rows = take (limit + 1 - number) rows
 within_left None number rows = rows
 
 -- at the first record these are all
-pub left-first : (limit : Option ℕ) (rows : List Row) → within_limit limit rows ≡ within_left limit 1 rows
+pub left-first : (limit : Option ℕ) (rows : List AllCells) → within_limit limit rows ≡ within_left limit 1 rows
 left-first (Some limit) rows = ap (λ (n : ℕ). take n rows) (omega arith)
 left-first None rows = refl
 
 -- a record within the limit
-pub left-next : (limit : Option ℕ) (number : ℕ) (cells : Row) (rest rows : List Row) → rows ≡ cells ∷ rest → is_past limit number ≡ false → within_left limit number rows ≡ cells ∷ within_left limit (number + 1) rest
+pub left-next : (limit : Option ℕ) (number : ℕ) (cells : AllCells) (rest rows : List AllCells) → rows ≡ cells ∷ rest → is_past limit number ≡ false → within_left limit number rows ≡ cells ∷ within_left limit (number + 1) rest
 left-next (Some limit) number cells rest rows is within =
     let low : number ≤ limit = ltb-false limit number within in
     let more : limit + 1 - number ≡ suc (limit + 1 - (number + 1)) = omega (arith, low) in
-    ap (λ (r : List Row). take (limit + 1 - number) r) is ∙ ap (λ (n : ℕ). take n (cells ∷ rest)) more
+    ap (λ (r : List AllCells). take (limit + 1 - number) r) is ∙ ap (λ (n : ℕ). take n (cells ∷ rest)) more
 left-next None number cells rest rows is within = is
 
 -- no record is left within the limit
-pub left-past : (limit : Option ℕ) (number : ℕ) (rows : List Row) → is_past limit number ≡ true → within_left limit number rows ≡ []
+pub left-past : (limit : Option ℕ) (number : ℕ) (rows : List AllCells) → is_past limit number ≡ true → within_left limit number rows ≡ []
 left-past (Some limit) number rows past =
     let high : limit < number = ltb-true limit number past in
     let none_left : limit + 1 - number ≡ 0 = omega (arith, high) in
     ap (λ (n : ℕ). take n rows) none_left
 left-past None number rows past = absurd cc
 
-pub left-none : (limit : Option ℕ) (number : ℕ) (rows : List Row) → rows ≡ [] → within_left limit number rows ≡ []
+pub left-none : (limit : Option ℕ) (number : ℕ) (rows : List AllCells) → rows ≡ [] → within_left limit number rows ≡ []
 left-none (Some limit) number rows none = ap (take (limit + 1 - number)) none ∙ take-none (limit + 1 - number)
   where
-    take-none : (n : ℕ) → take {A = Row} n [] ≡ []
+    take-none : (n : ℕ) → take {A = AllCells} n [] ≡ []
     take-none zero = refl
     take-none (suc n) = refl
 left-none None number rows none = none

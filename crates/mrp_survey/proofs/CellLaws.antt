@@ -21,13 +21,13 @@ use Rattle.mrp_survey.specs.CellLaws.{IsOfWrongCell, TellsEachCell, TellsEachRec
 use Rattle.mrp_survey.specs.Entry.{Entry}
 use Rattle.mrp_survey.specs.Entries.{kind_in, name_in, word_in, wrong_in}
 use Rattle.mrp_survey.specs.Finding.{Told}
-use Rattle.mrp_survey.specs.Forms.{Row}
+use Rattle.mrp_survey.specs.Forms.{AllCells}
 use Rattle.mrp_survey.specs.Headers.{limit_of}
 use Rattle.mrp_survey.specs.Keys.{Keys}
 use Rattle.mrp_survey.specs.Marks.{cell_mark, keys_after, marks_of, told_of}
 use Rattle.mrp_survey.specs.Records.{Records}
 use Rattle.mrp_survey.specs.Rules.{broken, class_fault, class_fault_in, component_fault, has_gone_out, is_unknown, key_column, known_class, marked_if, not_master, receipt_fault, repeated, row_fault, rules_of, service_fault}
-use Rattle.mrp_survey.specs.Tables.{entry_at, told_from, width_of}
+use Rattle.mrp_survey.specs.Tables.{entry_at, row_shown, told_from, width_of}
 use Rattle.mrp_survey.specs.Told.{Mark, told}
 
 -- the marks of a record's cells in these columns
@@ -134,8 +134,8 @@ rules-other beside seen entry (own ∷ rules) = All-append IsOther (option_to_li
 pub tells-each-cell : (entry : Entry) → TellsEachCell entry
 unfolding IsOther
 tells-each-cell entry = record {
-  columns = columns-told entry (range_with_len 0 (length entry.row));
-  wrong = cells-wrong entry (range_with_len 0 (length entry.row));
+  columns = columns-told entry (range_with_len 0 entry.row.count);
+  wrong = cells-wrong entry (range_with_len 0 entry.row.count);
   others = λ beside seen. rules-other beside seen entry (rules_of entry.form.table);
 }
 
@@ -163,7 +163,7 @@ eq-same : (n : ℕ) → (n == n) ≡ true
 eq-same n = grind arith
 
 module _ (form : Form) (beside : Beside) (records : Records) where
-  numbered-later : (k : ℕ) (seen : Keys) (n : ℕ) (rows : List Row) → k < n → numbered k (told_from form beside records seen n rows) ≡ []
+  numbered-later : (k : ℕ) (seen : Keys) (n : ℕ) (rows : List AllCells) → k < n → numbered k (told_from form beside records seen n rows) ≡ []
   unfolding told_from
   numbered-later k seen n [] less = refl
   numbered-later k seen n (row ∷ rows) less = by (is_past (limit_of form) n) (numbered-later k (keys_after (width_of form) seen (entry_at form records n row)) (n + 1) rows (omega (arith, less)))
@@ -172,7 +172,7 @@ module _ (form : Form) (beside : Beside) (records : Records) where
       other = ne_eqb n k (λ e. omega (arith, e, less))
 
       by : (b : Bool) → numbered k (told_from form beside records (keys_after (width_of form) seen (entry_at form records n row)) (n + 1) rows) ≡ []
-          → numbered k (if b then told (entry_at form records n row).place row 0 what.TooMany ∷ [] else told_of (entry_at form records n row) (marks_of (width_of form) beside seen (entry_at form records n row)) ++ told_from form beside records (keys_after (width_of form) seen (entry_at form records n row)) (n + 1) rows) ≡ []
+          → numbered k (if b then told (entry_at form records n row).place (row_shown form row) 0 what.TooMany ∷ [] else told_of (entry_at form records n row) (marks_of (width_of form) beside seen (entry_at form records n row)) ++ told_from form beside records (keys_after (width_of form) seen (entry_at form records n row)) (n + 1) rows) ≡ []
       by true more = rw other refl
       by false more =
           numbered-append k (told_of (entry_at form records n row) (marks_of (width_of form) beside seen (entry_at form records n row))) _
@@ -187,7 +187,7 @@ module _ (form : Form) (beside : Beside) (records : Records) where
       by true is most = absurd (let over : limit < n = ltb-true limit n is in omega (arith, over, most, low))
       by false is most = refl
 
-  each-told : (k : ℕ) (seen : Keys) (n place : ℕ) (rows : List Row) → k ≡ n + place → place < length rows → is_past (limit_of form) k ≡ false
+  each-told : (k : ℕ) (seen : Keys) (n place : ℕ) (rows : List AllCells) → k ≡ n + place → place < length rows → is_past (limit_of form) k ≡ false
       → numbered k (told_from form beside records seen n rows)
       ≡ told_of (entry_at form records k (get_or rows place [])) (marks_of (width_of form) beside (keys_behind form records seen n (take place rows)) (entry_at form records k (get_or rows place [])))
   unfolding told_from keys_behind
@@ -212,5 +212,5 @@ module _ (form : Form) (beside : Beside) (records : Records) where
       ∙ ap (λ (l : List Told). l ++ numbered k (told_from form beside records (keys_after (width_of form) seen entry) (n + 1) rows)) (numbered-other k entry (marks_of (width_of form) beside seen entry) other)
       ∙ more)
 
-  pub tells-each-record : (rows : List Row) → TellsEachRecord form beside records rows
+  pub tells-each-record : (rows : List AllCells) → TellsEachRecord form beside records rows
   tells-each-record rows = λ place within admits. each-told (place + 1) [] 1 place rows (omega arith) within admits

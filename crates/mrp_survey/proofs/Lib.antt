@@ -1,6 +1,6 @@
 mod BillSteps
+mod CalendarSteps
 mod CellLaws
-mod CsvSteps
 mod FileLines
 mod LikeNames
 mod LineLaws

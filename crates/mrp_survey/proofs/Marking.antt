@@ -1,7 +1,10 @@
 -- Marks that are told one after the other.
-use Rattle.std.proofs.Common.{◌≡◌, ◌∙◌, ◌+◌, ℕ, List, [], ◌∷◌, ◌++◌, sym, ap, append_assoc, arith}
+use Rattle.std.proofs.Common.{◌≡◌, ◌∙◌, ◌+◌, ◌<◌, ℕ, List, [], ◌∷◌, ◌++◌, get_or, length, suc, sym, take, ap, append_assoc, arith}
+use Rattle.std.specs.Prelude.{flat_map}
+use Rattle.std.proofs.Math.Seq.{take-suc}
 use Rattle.std.specs.List.{range_with_len}
-use Rattle.std.proofs.lemmas.List.{map-append, map-id}
+use Rattle.std.proofs.lemmas.List.{flat_map_more, map-append, map-id}
+use Rattle.mrp_survey.specs.declared.rule.Rule.{Rule}
 use Rattle.std.proofs.lemmas.List.FromFn.{map-range_with_len_more}
 use Rattle.mrp_survey.specs.Entry.{Entry}
 use Rattle.mrp_survey.specs.Finding.{Told}
@@ -21,3 +24,12 @@ told-more entry first now next a b c before more both =
     more ∙ ap (λ (xs : List Told). xs ++ told_of entry b) before
     ∙ append_assoc first (told_of entry a) (told_of entry b)
     ∙ ap (λ (xs : List Told). first ++ xs) (sym (map-append (λ (mark : Mark). told entry.place entry.row mark.0 mark.1) a b) ∙ ap (told_of entry) both)
+
+-- one more rule
+pub rules-more : (f : Rule → List Mark) (rules own : List Rule) (i : ℕ) (d rule : Rule) → own ≡ rules → i < length own → rule ≡ get_or own i d → flat_map f (take i rules) ++ f rule ≡ flat_map f (take (i + 1) rules)
+rules-more f rules own i d rule is within rule_is =
+    let inside : i < length rules = rw (← is) within in
+    let own_rule : rule ≡ get_or rules i d = rule_is ∙ ap (λ (r : List Rule). get_or r i d) is in
+    let one : i + 1 ≡ suc i = omega arith in
+    let more : take (i + 1) rules ≡ take i rules ++ (get_or rules i d ∷ []) = ap (λ (n : ℕ). take n rules) one ∙ take-suc rules i d inside in
+    flat_map_more f [] (take i rules) rule ∙ ap (λ (r : Rule). flat_map f (take i rules ++ (r ∷ []))) own_rule ∙ ap (flat_map f) (sym more)

@@ -5,7 +5,7 @@ use Rattle.std.proofs.lemmas.Bool.{ltb-false, ltb-true}
 use Rattle.std.proofs.lemmas.Bool.Decides.{nat_tests}
 use Rattle.mrp_tables.specs.Reading.{is_past}
 use Rattle.mrp_survey.specs.declared.form.Form.{Form}
-use Rattle.mrp_survey.specs.Forms.{Row}
+use Rattle.mrp_survey.specs.Forms.{AllCells}
 use Rattle.mrp_survey.specs.Headers.{limit_of}
 use Rattle.mrp_survey.specs.Names.{Names}
 use Rattle.mrp_survey.specs.Records.{Records}
@@ -33,15 +33,15 @@ past-further (Some limit) number more low past =
 
 module _ (form : Form) (records : Records) where
   -- no record is left
-  pub all-named : (names : Names) (number : ℕ) (whole rows : List Row) → rows ≡ [] → names_from form records [] 1 whole ≡ names_from form records names number rows → length whole + 1 ≡ number + length rows → is_past (limit_of form) (number - 1) ≡ false
+  pub all-named : (names : Names) (number : ℕ) (whole rows : List AllCells) → rows ≡ [] → names_from form records [] 1 whole ≡ names_from form records names number rows → length whole + 1 ≡ number + length rows → is_past (limit_of form) (number - 1) ≡ false
       → Some names ≡ names_in form records whole
   all-named names number whole rows none so_far count within =
-      let long : number - 1 ≡ length whole = omega (arith, count, ap (λ (r : List Row). length r) none) in
+      let long : number - 1 ≡ length whole = omega (arith, count, ap (λ (r : List AllCells). length r) none) in
       let all : is_past (limit_of form) (length whole) ≡ false = rw long at within in
       rw all (ap (λ (n : Names). Some n) (names-all form records names number rows _ none so_far))
 
   -- a record is left that is past the limit
-  pub past-named : (number : ℕ) (whole : List Row) (cells : Row) (rest rows : List Row) → rows ≡ cells ∷ rest → length whole + 1 ≡ number + length rows → is_past (limit_of form) number ≡ true → None ≡ names_in form records whole
+  pub past-named : (number : ℕ) (whole : List AllCells) (cells : AllCells) (rest rows : List AllCells) → rows ≡ cells ∷ rest → length whole + 1 ≡ number + length rows → is_past (limit_of form) number ≡ true → None ≡ names_in form records whole
   past-named number whole cells rest rows is count past =
-      let long : number ≤ length whole = omega (arith, count, ap (λ (r : List Row). length r) is) in
+      let long : number ≤ length whole = omega (arith, count, ap (λ (r : List AllCells). length r) is) in
       rw (past-further (limit_of form) number (length whole) long past) refl

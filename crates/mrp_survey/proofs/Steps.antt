@@ -18,7 +18,7 @@ use Rattle.mrp_survey.specs.declared.lines.Reading.{Reading}
 use Rattle.mrp_survey.specs.declared.rule.Beside.{Beside}
 use Rattle.mrp_survey.specs.Entry.{Entry}
 use Rattle.mrp_survey.specs.Finding.{Told}
-use Rattle.mrp_survey.specs.Forms.{Row}
+use Rattle.mrp_survey.specs.Forms.{AllCells, Row}
 use Rattle.mrp_survey.specs.Headers.{is_like, limit_of}
 use Rattle.mrp_survey.specs.Keys.{Key, Keys, line_of, same_key, with_key}
 use Rattle.mrp_survey.specs.Likes.{Firsts, lowered, with_first}
@@ -26,7 +26,7 @@ use Rattle.mrp_survey.specs.Lines.{begins_record, ends_own_line, lines_from, ste
 use Rattle.mrp_survey.specs.Marks.{keys_after, marks_of, told_of}
 use Rattle.mrp_survey.specs.Names.{Names, is_among, with_name}
 use Rattle.mrp_survey.specs.Records.{Records, place_of}
-use Rattle.mrp_survey.specs.Tables.{entry_at, names_after, names_from, told_from, width_of}
+use Rattle.mrp_survey.specs.Tables.{entry_at, names_after, names_from, row_shown, told_from, width_of}
 use Rattle.mrp_survey.specs.Told.{told}
 
 -- a key that is not there goes last
@@ -83,7 +83,7 @@ unfolding lines_from
 lines-end r xs whole lines i past so_far = sym (so_far ∙ ap (λ (ys : List ℕ). lines ++ lines_from r ys) (drop_all i xs past) ∙ append-nil lines)
 
 -- a header's next cell against the next name
-pub like-drop : (cells : Row) (names : List (Bor (List ℕ))) (i : ℕ) (d : Bor (List ℕ)) (cell name : List ℕ) (like : Bool)
+pub like-drop : (cells : AllCells) (names : List (Bor (List ℕ))) (i : ℕ) (d : Bor (List ℕ)) (cell name : List ℕ) (like : Bool)
     → length cells ≡ length names → i < length names → cell ≡ get_or cells i [] → name ≡ (get_or names i d).now → like ≡ is_like cell name
     → pointwise is_like (drop i cells) (drop i (map (λ n. n.now) names)) ≡ (like && pointwise is_like (drop (i + 1) cells) (drop (i + 1) (map (λ n. n.now) names)))
 like-drop cells names i d cell name like long within cell_is name_is is =
@@ -94,7 +94,7 @@ like-drop cells names i d cell name like long within cell_is name_is is =
     pointwise-drop is_like cells (map (λ (n : Bor (List ℕ)). n.now) names) i [] [] in_cells in_names
     ∙ ap (λ (b : Bool). b && pointwise is_like (drop (i + 1) cells) (drop (i + 1) (map (λ (n : Bor (List ℕ)). n.now) names))) same
 
-module _ (form : Form) (records : Records) (n : ℕ) (cells : Row) (rest rows : List Row) (is : rows ≡ cells ∷ rest) where
+module _ (form : Form) (records : Records) (n : ℕ) (cells : AllCells) (rest rows : List AllCells) (is : rows ≡ cells ∷ rest) where
   -- a record more that is told
   pub told-further : (beside : Beside) (seen keys : Keys) (width : ℕ) (entry : Entry) (whole now more : List Told) → width ≡ width_of form → entry ≡ entry_at form records n cells → is_past (limit_of form) n ≡ false
       → more ≡ now ++ told_of entry (marks_of width beside seen entry) → keys ≡ keys_after width seen entry
@@ -102,18 +102,18 @@ module _ (form : Form) (records : Records) (n : ℕ) (cells : Row) (rest rows : 
   unfolding told_from
   told-further beside seen keys width entry whole now more width_is entry_is within grown keys_is so_far =
       let step : told_from form beside records seen n (cells ∷ rest) ≡ told_of entry (marks_of width beside seen entry) ++ told_from form beside records keys (n + 1) rest = rw (keys_is, width_is, entry_is, within) refl in
-      so_far ∙ ap (λ (r : List Row). now ++ told_from form beside records seen n r) is
+      so_far ∙ ap (λ (r : List AllCells). now ++ told_from form beside records seen n r) is
       ∙ ap (λ (t : List Told). now ++ t) step
       ∙ sym (append_assoc now (told_of entry (marks_of width beside seen entry)) (told_from form beside records keys (n + 1) rest))
       ∙ ap (λ (t : List Told). t ++ told_from form beside records keys (n + 1) rest) (sym grown)
 
   -- the first record past the limit
-  pub told-past : (beside : Beside) (seen : Keys) (place : Place) (whole now : List Told) → place ≡ place_of records form.table n → is_past (limit_of form) n ≡ true
-      → whole ≡ now ++ told_from form beside records seen n rows → now ++ told place cells 0 what.TooMany ∷ [] ≡ whole
+  pub told-past : (beside : Beside) (seen : Keys) (place : Place) (row : Row) (whole now : List Told) → place ≡ place_of records form.table n → row ≡ row_shown form cells → is_past (limit_of form) n ≡ true
+      → whole ≡ now ++ told_from form beside records seen n rows → now ++ told place row 0 what.TooMany ∷ [] ≡ whole
   unfolding told_from
-  told-past beside seen place whole now place_is past so_far =
-      let step : told_from form beside records seen n (cells ∷ rest) ≡ told place cells 0 what.TooMany ∷ [] = rw (place_is, past) refl in
-      sym (so_far ∙ ap (λ (r : List Row). now ++ told_from form beside records seen n r) is ∙ ap (λ (t : List Told). now ++ t) step)
+  told-past beside seen place row whole now place_is row_is past so_far =
+      let step : told_from form beside records seen n (cells ∷ rest) ≡ told place row 0 what.TooMany ∷ [] = rw (place_is, row_is, past) refl in
+      sym (so_far ∙ ap (λ (r : List AllCells). now ++ told_from form beside records seen n r) is ∙ ap (λ (t : List Told). now ++ t) step)
 
   -- a record more whose name is added
   pub names-further : (names more : Names) (width : ℕ) (entry : Entry) (whole : Names) → width ≡ width_of form → entry ≡ entry_at form records n cells
@@ -123,11 +123,11 @@ module _ (form : Form) (records : Records) (n : ℕ) (cells : Row) (rest rows : 
       so_far ∙ ap (names_from form records names n) is ∙ rw (added, width_is, entry_is) refl
 
 -- no record more
-pub told-all : (form : Form) (beside : Beside) (records : Records) (seen : Keys) (n : ℕ) (rows : List Row) (whole now : List Told) → rows ≡ [] → whole ≡ now ++ told_from form beside records seen n rows → now ≡ whole
+pub told-all : (form : Form) (beside : Beside) (records : Records) (seen : Keys) (n : ℕ) (rows : List AllCells) (whole now : List Told) → rows ≡ [] → whole ≡ now ++ told_from form beside records seen n rows → now ≡ whole
 unfolding told_from
-told-all form beside records seen n rows whole now none so_far = sym (so_far ∙ ap (λ (r : List Row). now ++ told_from form beside records seen n r) none ∙ append-nil now)
+told-all form beside records seen n rows whole now none so_far = sym (so_far ∙ ap (λ (r : List AllCells). now ++ told_from form beside records seen n r) none ∙ append-nil now)
 
-pub names-all : (form : Form) (records : Records) (names : Names) (n : ℕ) (rows : List Row) (whole : Names) → rows ≡ [] → whole ≡ names_from form records names n rows → names ≡ whole
+pub names-all : (form : Form) (records : Records) (names : Names) (n : ℕ) (rows : List AllCells) (whole : Names) → rows ≡ [] → whole ≡ names_from form records names n rows → names ≡ whole
 unfolding names_from
 names-all form records names n rows whole none so_far = sym (so_far ∙ ap (names_from form records names n) none)
 
@@ -147,3 +147,8 @@ span-of count number most from to below none = by (nat_le count most) refl
     by : (b : Bool) → nat_le count most ≡ b → number - count ≡ most - count
     by true is = let top : number ≤ most = below (leb-true count most is) in omega (arith, top, from, to)
     by false is = let over : most < count = leb-false count most is in let same : number ≡ count = none (omega (arith, over, from)) in omega (arith, same, over)
+
+-- a test that fails in its second part
+pub either-false : (a b : Bool) → false ≡ b → false ≡ (a && b)
+either-false true b e = e
+either-false false b e = refl

@@ -5,7 +5,7 @@ use Rattle.mrp_survey.specs.declared.bill_lines.BillLine.{BillLine}
 use Rattle.mrp_survey.specs.declared.form.Form.{Form}
 use Rattle.mrp_survey.specs.Entry.{Entry}
 use Rattle.mrp_survey.specs.Entries.{name_in}
-use Rattle.mrp_survey.specs.Forms.{Row}
+use Rattle.mrp_survey.specs.Forms.{AllCells}
 use Rattle.mrp_survey.specs.Headers.{limit_of}
 use Rattle.mrp_survey.specs.Marks.{is_whole}
 use Rattle.mrp_survey.specs.Names.{Names, place_among}
@@ -29,16 +29,16 @@ bill_line width items entry =
     if is_whole width entry.row && is_none (misfit items entry 1) then line_of entry.place.number (known_place items entry 0) (known_place items entry 1) else None
 
 -- the bill lines of the remaining records
-unfoldable pub lines_from : Form → Option Names → Records → ℕ → List Row → List BillLine
+unfoldable pub lines_from : Form → Option Names → Records → ℕ → List AllCells → List BillLine
 lines_from form items records number [] = []
 lines_from form items records number (row ∷ rows) =
     option_to_list (bill_line (width_of form) items (entry_at form records number row)) ++ lines_from form items records (number + 1) rows
 
 -- the records within a limit
-abbrev pub within_limit : Option ℕ → List Row → List Row
+abbrev pub within_limit : Option ℕ → List AllCells → List AllCells
 within_limit (Some limit) rows = take limit rows
 within_limit None rows = rows
 
 -- the bill lines of a table's records
-abbrev pub bill_lines : Form → Option Names → Records → List Row → List BillLine
+abbrev pub bill_lines : Form → Option Names → Records → List AllCells → List BillLine
 bill_lines form items records rows = lines_from form items records 1 (within_limit (limit_of form) rows)

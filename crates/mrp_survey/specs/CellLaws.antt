@@ -9,7 +9,7 @@ use Rattle.mrp_survey.specs.declared.rule.Beside.{Beside}
 use Rattle.mrp_survey.specs.Entry.{Entry}
 use Rattle.mrp_survey.specs.Entries.{kind_in, wrong_in}
 use Rattle.mrp_survey.specs.Finding.{Told}
-use Rattle.mrp_survey.specs.Forms.{Row}
+use Rattle.mrp_survey.specs.Forms.{AllCells}
 use Rattle.mrp_survey.specs.Headers.{limit_of}
 use Rattle.mrp_survey.specs.Keys.{Keys}
 use Rattle.mrp_survey.specs.Marks.{cell_marks, keys_after, marks_of, rule_marks, told_of}
@@ -41,17 +41,17 @@ is_of_cell (what.Missing key) = false
 
 -- of a record with a cell for each column, each cell that is not of its kind is told once, from the left, and no other is
 pub record TellsEachCell (entry : Entry) : Type 0 where
-  pub columns : map (λ (mark : Mark). mark.0) (cell_marks entry) ≡ filter (λ column. is_some (wrong_in entry column)) (range_with_len 0 (length entry.row))
+  pub columns : map (λ (mark : Mark). mark.0) (cell_marks entry) ≡ filter (λ column. is_some (wrong_in entry column)) (range_with_len 0 entry.row.count)
   pub wrong : All (IsOfWrongCell entry) (cell_marks entry)
   pub others : (beside : Beside) (seen : Keys) → All (λ (mark : Mark). is_of_cell mark.1 ≡ false) (rule_marks beside seen entry)
 
 -- the keys of records, after those of earlier ones
-unfoldable pub keys_behind : Form → Records → Keys → ℕ → List Row → Keys
+unfoldable pub keys_behind : Form → Records → Keys → ℕ → List AllCells → Keys
 keys_behind form records seen number [] = seen
 keys_behind form records seen number (row ∷ rows) = keys_behind form records (keys_after (width_of form) seen (entry_at form records number row)) (number + 1) rows
 
 -- what is told of each record within a table's limit is what is wrong with this record, given the earlier ones
-abbrev pub TellsEachRecord : Form → Beside → Records → List Row → Type 0
+abbrev pub TellsEachRecord : Form → Beside → Records → List AllCells → Type 0
 TellsEachRecord form beside records rows =
     (place : ℕ) → place < length rows → is_past (limit_of form) (place + 1) ≡ false
     → filter (λ (told : Told). told.number == place + 1) (told_from form beside records [] 1 rows)

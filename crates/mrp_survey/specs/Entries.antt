@@ -1,7 +1,7 @@
 -- What a record's cells are read as.
-use Rattle.std.specs.Prelude.{ℕ, ◌==◌, Bool, List, length, Option}
-use Rattle.std.specs.List.{list_all}
+use Rattle.std.specs.Prelude.{ℕ, ◌&&◌, Bool, List, drop, Option}
 use Rattle.jiff.specs.Types.{Date}
+use Rattle.mrp_rows.specs.Shown as shown
 use Rattle.mrp_survey.specs.declared.kind.Kind.{Kind}
 use Rattle.mrp_survey.specs.Entry.{Entry}
 use Rattle.mrp_survey.specs.Forms.{Row, cell_in, kind_of}
@@ -28,6 +28,10 @@ date_in entry column = date_by (kind_in entry column) (cell_in entry.row column)
 abbrev pub word_in : Entry → ℕ → Option ℕ
 word_in entry column = word_by (kind_in entry column) (cell_in entry.row column)
 
+-- all cells are empty, from a column on that is kept or the first that is not
+abbrev pub are_empty_from : Row → ℕ → Bool
+are_empty_from row column = shown.are_empty (drop column row.first) && row.are_others_empty
+
 -- all cells are empty
 abbrev pub are_empty : Row → Bool
-are_empty row = list_all (λ cell. length cell == 0) row
+are_empty row = shown.are_empty row.first && row.are_others_empty

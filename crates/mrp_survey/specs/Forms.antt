@@ -4,6 +4,7 @@ use Rattle.std.specs.List.{slice_index_or}
 use Rattle.mrp_cal.specs.declared.calendar.TheConstants.{MOST_WEEKS}
 use Rattle.mrp_rows.specs.declared.fault.Table.{Table}
 use Rattle.mrp_rows.specs.declared.fault.Table.TheVariants as t
+use Rattle.mrp_rows.specs.Shown.{Shown}
 use Rattle.mrp_tables.specs.declared.limits.TheConstants as limits
 use Rattle.mrp_tables.specs.declared.version.TheConstants.{MOST_VERSION}
 use Rattle.mrp_tables.specs.declared.version.Version.{Version}
@@ -16,13 +17,17 @@ use Rattle.mrp_survey.specs.declared.kind.Words.{Words}
 use Rattle.mrp_survey.specs.declared.kind.Words.TheVariants as words
 use Rattle.mrp_survey.specs.Kinds.{place_among, wrong}
 
--- a record's cells
+-- all cells of a record
+abbrev pub AllCells : Type 0
+AllCells = List (List ℕ)
+
+-- what is kept of a record
 abbrev pub Row : Type 0
-Row = List (List ℕ)
+Row = Shown
 
 -- a cell of a record, by its column from 0
 abbrev pub cell_in : Row → ℕ → List ℕ
-cell_in row column = slice_index_or row column []
+cell_in row column = slice_index_or row.first column []
 
 -- which entry of the calendar a record is: 0 a version, 1 the start, 2 the weeks, 3 the workdays, and then holidays
 abbrev pub entry_place : Form → ℕ → ℕ

@@ -1,11 +1,12 @@
 -- What the calendar's records say, where they are right (profile).
-use Rattle.std.specs.Prelude.{ℕ, ◌==◌, ◌&&◌, ◌+◌, ◌-◌, Bool, true, false, if◌then◌else◌, nat_eq, is_none, List, [], ◌∷◌, codes, length, replicate, slice_index_or, Option, Some, None, option_and_then, option_map}
+use Rattle.std.specs.Prelude.{ℕ, ◌==◌, ◌&&◌, ◌+◌, ◌-◌, Bool, true, false, if◌then◌else◌, nat_eq, is_none, List, [], ◌∷◌, codes, replicate, slice_index_or, Option, Some, None, option_and_then, option_map}
 use Rattle.std.specs.Result.{result_ok}
 use Rattle.std.specs.Cmp.Lexicographic.{pointwise}
 use Rattle.jiff.specs.Types.{Date}
 use Rattle.mrp_cal.specs.Calendar.{ShopCalendar, calendar_of}
 use Rattle.mrp_cal.specs.declared.calendar.TheConstants.{MOST_WEEKS}
 use Rattle.mrp_rows.specs.Cell.{number_cell}
+use Rattle.mrp_rows.specs.Shown.{nothing_shown}
 use Rattle.mrp_tables.specs.declared.version.TheConstants.{MOST_VERSION}
 use Rattle.mrp_tables.specs.declared.version.Version.{Version}
 use Rattle.mrp_tables.specs.declared.version.Version.TheVariants.{One}
@@ -25,10 +26,10 @@ start_number form = if form.has_version then 2 else 1
 
 -- the value's cell of a record, if it has the right key
 abbrev pub value_cell : Form → ℕ → Row → Option (List ℕ)
-value_cell form number row = if (length row == 2) && is_none (wrong (kind_of form number row 0) (cell_in row 0)) then Some (cell_in row 1) else None
+value_cell form number row = if (row.count == 2) && is_none (wrong (kind_of form number row 0) (cell_in row 0)) then Some (cell_in row 1) else None
 
 abbrev pub cell_with_key : Form → List Row → ℕ → Option (List ℕ)
-cell_with_key form rows number = value_cell form number (slice_index_or rows (number - 1) [])
+cell_with_key form rows number = value_cell form number (slice_index_or rows (number - 1) nothing_shown)
 
 -- the start of the horizon, a Monday
 abbrev pub start_in : Form → List Row → Option Date

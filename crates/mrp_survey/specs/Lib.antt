@@ -21,6 +21,7 @@ pub mod Names
 pub mod Reading
 pub mod Records
 pub mod Rules
+pub mod Sought
 pub mod Survey
 pub mod Surveyed
 pub mod Tables

@@ -7,7 +7,7 @@ use Rattle.mrp_loops.specs.Needs.{IsFirst, Needs}
 use Rattle.mrp_survey.specs.declared.bill_lines.BillLine.{BillLine}
 use Rattle.mrp_survey.specs.declared.form.Form.{Form}
 use Rattle.mrp_survey.specs.BillLines.{bill_lines}
-use Rattle.mrp_survey.specs.Forms.{Row}
+use Rattle.mrp_survey.specs.Forms.{AllCells}
 use Rattle.mrp_survey.specs.Names.{Names, name_at}
 use Rattle.mrp_survey.specs.Records.{Records, rows_below}
 use Rattle.mrp_survey.specs.Surveyed.{LoopTold}
@@ -63,7 +63,7 @@ pub record AreFound (items : Option Names) (records : Records) (lines : List Bil
   pub rising : AreRising (items_of own)
   pub all : (item : ℕ) → Needs (edges_of lines) item item → IsTold (edges_of lines) (items_of own) item
 
-abbrev pub FindsBelow : Form → Option Names → Records → Option (List Row) → List LoopTold → Type 0
+abbrev pub FindsBelow : Form → Option Names → Records → Option (List AllCells) → List LoopTold → Type 0
 FindsBelow form items records (Some rows) found = AreFound items records (bill_lines form items records rows) found
 FindsBelow form items records None found = found ≡ []
 

@@ -1,5 +1,5 @@
 -- What is told of a record (profile).
-use Rattle.std.specs.Prelude.{ℕ, ◌==◌, ◌&&◌, ◌-◌, Bool, not, if◌then◌else◌, List, [], ◌∷◌, ◌++◌, flat_map, length, Option, Some, None}
+use Rattle.std.specs.Prelude.{ℕ, ◌==◌, ◌&&◌, ◌-◌, Bool, not, if◌then◌else◌, List, [], ◌∷◌, ◌++◌, flat_map, Option, Some, None}
 use Rattle.std.specs.List.{range_with_len}
 use Rattle.std.specs.Option.{option_to_list}
 use Rattle.mrp_survey.specs.declared.finding.What.TheVariants as what
@@ -20,7 +20,7 @@ cell_mark column own (Some code) = (column, what.Cell own code) ∷ []
 
 -- all cells that are not of their kinds, from the left
 abbrev pub cell_marks : Entry → List Mark
-cell_marks entry = flat_map (λ column. cell_mark column (kind_in entry column) (wrong_in entry column)) (range_with_len 0 (length entry.row))
+cell_marks entry = flat_map (λ column. cell_mark column (kind_in entry column) (wrong_in entry column)) (range_with_len 0 entry.row.count)
 
 -- all rules that are broken, in their order
 abbrev pub rule_marks : Beside → Keys → Entry → List Mark
@@ -31,15 +31,15 @@ rule_marks beside seen entry = flat_map (λ rule. option_to_list (broken beside 
 abbrev pub marks_of : ℕ → Beside → Keys → Entry → List Mark
 marks_of width beside seen entry =
     if are_empty entry.row then (0, what.Blank) ∷ []
-    else if length entry.row == width then cell_marks entry ++ rule_marks beside seen entry
-    else (length entry.row - 1, what.Columns (length entry.row)) ∷ []
+    else if entry.row.count == width then cell_marks entry ++ rule_marks beside seen entry
+    else (entry.row.count - 1, what.Columns entry.row.count) ∷ []
 
 abbrev pub told_of : Entry → List Mark → List Told
 told_of entry marks = told_all entry.place entry.row marks
 
 -- a record has a cell for each column, and not all of them empty
 abbrev pub is_whole : ℕ → Row → Bool
-is_whole width row = (length row == width) && not (are_empty row)
+is_whole width row = (row.count == width) && not (are_empty row)
 
 -- with what a record has to itself, if anything
 abbrev pub with_own : Keys → Option Key → ℕ → Keys

@@ -4,21 +4,23 @@ use Rattle.std.specs.List.{range_with_len}
 use Rattle.mrp_cal.specs.Calendar.{ShopCalendar}
 use Rattle.mrp_rows.specs.declared.fault.Table.{Table}
 use Rattle.mrp_rows.specs.declared.fault.Table.TheVariants as t
+use Rattle.mrp_rows.specs.Shown.{nothing_shown}
 use Rattle.mrp_rows.specs.Tables.{table_index}
 use Rattle.mrp_tables.specs.declared.version.Version.{Version}
-use Rattle.mrp_tables.specs.declared.version.Version.TheVariants.{One}
+use Rattle.mrp_tables.specs.declared.version.Version.TheVariants.{One, Three}
 use Rattle.mrp_survey.specs.declared.finding.What.TheVariants as what
 use Rattle.mrp_survey.specs.declared.form.Form.{Form}
 use Rattle.mrp_survey.specs.declared.rule.Beside.{Beside}
 use Rattle.mrp_survey.specs.declared.source.Source.{Source}
 use Rattle.mrp_survey.specs.Finding.{Told}
-use Rattle.mrp_survey.specs.Forms.{Row, dated_key, entry_place}
+use Rattle.mrp_survey.specs.Forms.{AllCells, Row, dated_key, entry_place}
+use Rattle.mrp_survey.specs.Headers.{can_be_read, header_of, header_shown}
 use Rattle.mrp_survey.specs.Horizons.{calendar_in, has_version, version_in}
 use Rattle.mrp_survey.specs.Loops.{FindsLoops}
 use Rattle.mrp_survey.specs.Names.{Names}
 use Rattle.mrp_survey.specs.Records.{Records, records_from, rows_below}
 use Rattle.mrp_survey.specs.Surveyed.{LoopTold}
-use Rattle.mrp_survey.specs.Tables.{header_told, names_in, told_from}
+use Rattle.mrp_survey.specs.Tables.{header_told, names_in, row_shown, told_from}
 use Rattle.mrp_survey.specs.Told.{told}
 
 -- where the tables' texts are, in the order of the tables
@@ -36,7 +38,7 @@ records_at sources table = option_map records_of_source (slice_index_or sources 
 abbrev pub nothing_beside : Beside
 nothing_beside = record { items = None; centres = None; calendar = None }
 
-abbrev pub below_told : Form → Beside → Records → Option (List Row) → List Told
+abbrev pub below_told : Form → Beside → Records → Option (List AllCells) → List Told
 below_told form beside records (Some rows) = told_from form beside records [] 1 rows
 below_told form beside records None = []
 
@@ -47,7 +49,7 @@ table_told form beside None = []
 
 -- the records below a header, if that can be read
 abbrev pub rows_in : Form → Option Records → Option (List Row)
-rows_in form records = option_and_then (rows_below form) records
+rows_in form records = option_map (map (row_shown form)) (option_and_then (rows_below form) records)
 
 abbrev pub form_of : Table → Version → Form
 form_of table version = record { table = table; version = version; has_version = false }
@@ -62,13 +64,13 @@ dated_form records = record { table = t.Calendar; version = One; has_version = b
 
 -- a record of the calendar that is missing
 abbrev pub missing : Form → Table → ℕ → Told
-missing form file number = told (record { file = file; table = form.table; number = number + 1; line = 0 }) [] 0 (what.Missing (dated_key (entry_place form (number + 1))))
+missing form file number = told (record { file = file; table = form.table; number = number + 1; line = 0 }) nothing_shown 0 (what.Missing (dated_key (entry_place form (number + 1))))
 
 -- the records that a calendar with so many lacks
 abbrev pub missing_from : Form → Table → ℕ → List Told
 missing_from form file count = map (missing form file) (range_with_len count ((if form.has_version then 4 else 3) - count))
 
-abbrev pub lacking : Form → Records → Option (List Row) → List Told
+abbrev pub lacking : Form → Records → Option (List AllCells) → List Told
 lacking form records (Some rows) = missing_from form records.file (length rows)
 lacking form records None = []
 
@@ -83,16 +85,25 @@ dated_told form records = table_told form nothing_beside records ++ lacks_told f
 abbrev pub calendar_told : Sources → List Told
 calendar_told sources = dated_told (dated_form (records_at sources t.Calendar)) (records_at sources t.Calendar)
 
--- the version, if it is right; the first where no calendar can be read
-abbrev pub version_below : Form → Option (List Row) → Option Version
-version_below form (Some rows) = version_in form rows
-version_below form None = Some One
+-- the version whose columns a header of items has: the third, or else the first
+abbrev pub header_version : Option AllCells → Version
+header_version (Some header) = if can_be_read (form_of t.Items Three) (header_shown header) then Three else One
+header_version None = One
 
-abbrev pub version_by : Form → Option Records → Option Version
-version_by form records = version_below form (rows_in form records)
+abbrev pub version_of_items : Option Records → Version
+version_of_items (Some records) = header_version (header_of records.rows)
+version_of_items None = One
+
+-- the version, if it is right; where no calendar can be read, that of the items' header
+abbrev pub version_below : Version → Form → Option (List Row) → Option Version
+version_below own form (Some rows) = version_in form rows
+version_below own form None = Some own
+
+abbrev pub version_by : Version → Form → Option Records → Option Version
+version_by own form records = version_below own form (rows_in form records)
 
 abbrev pub version_among : Sources → Option Version
-version_among sources = version_by (dated_form (records_at sources t.Calendar)) (records_at sources t.Calendar)
+version_among sources = version_by (version_of_items (records_at sources t.Items)) (dated_form (records_at sources t.Calendar)) (records_at sources t.Calendar)
 
 -- the calendar's start and weeks, if both are right
 abbrev pub calendar_by : Form → Option Records → Option ShopCalendar
@@ -102,7 +113,7 @@ abbrev pub calendar_among : Sources → Option ShopCalendar
 calendar_among sources = calendar_by (dated_form (records_at sources t.Calendar)) (records_at sources t.Calendar)
 
 -- the names of a table that was read to its end
-abbrev pub names_below : Form → Records → Option (List Row) → Option Names
+abbrev pub names_below : Form → Records → Option (List AllCells) → Option Names
 names_below form records rows = option_and_then (names_in form records) rows
 
 abbrev pub names_by : Form → Option Records → Option Names

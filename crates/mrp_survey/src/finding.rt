@@ -1,15 +1,13 @@
 //! One fault, and where it is.
 
 ghost use Rattle.std.specs.Prelude.{◌≡◌, ◌++◌, ◌∷◌, [], OnOk};
-ghost use Rattle.csv.specs.Records.{fields_of};
 ghost use Rattle.mrp_survey.specs.Told.{told};
 
 use crate::form::cell_in;
 use crate::front::Front;
 use crate::kind::{Kind, Words};
-use csv::ByteRecord;
 use mrp_qty::NoMemory;
-use mrp_rows::Table;
+use mrp_rows::{Record, Table};
 use std::marker::Model;
 
 /// What is wrong.
@@ -65,11 +63,10 @@ pub struct Finding {
     line: u64,
     column: usize,
     what: What,
-    row: ByteRecord,
+    row: Record,
 }
 
 impl Model for Finding {
-    ghost use Rattle.csv.specs.Records.{fields_of};
     ghost use Rattle.mrp_survey.specs.Finding.{Told};
 
     ghost Value = { Told };
@@ -81,13 +78,12 @@ impl Model for Finding {
       line = f.line;
       column = f.column;
       what = f.what;
-      cells = fields_of f.row;
+      cells = f.row;
     } };
 }
 
 impl Finding {
     ghost use Rattle.std.specs.Prelude.{◌≡◌};
-    ghost use Rattle.csv.specs.Records.{fields_of};
     ghost use Rattle.mrp_survey.specs.Forms.{cell_in};
 
     /// The table whose file it is in.
@@ -132,9 +128,10 @@ impl Finding {
         self.what
     }
 
-    /// The record's cells; none of a record that is missing.
-    pub fn cells(&self) -> &ByteRecord
-        ensures { fields_of result.now ≡ self.now.cells }
+    /// The record's cells: of a header the first `HEADER_CELLS`, of another record as many as its table has columns; none of a
+    /// record that is missing.
+    pub fn cells(&self) -> &Record
+        ensures { result.now ≡ self.now.cells }
     {
         &self.row
     }
@@ -150,12 +147,12 @@ impl Finding {
 // Appends a fault of a record's cell.
 pub(crate) fn tell(
     place: Place,
-    row: &ByteRecord,
+    row: &Record,
     column: usize,
     what: What,
     findings: &mut Vec<Finding>,
 ) -> Result<(), NoMemory>
-    ensures { OnOk result (findings.new.items ≡ findings.old.items ++ told place (fields_of row.now) column what ∷ []) }
+    ensures { OnOk result (findings.new.items ≡ findings.old.items ++ told place row.now column what ∷ []) }
 {
     let row = row.clone()?;
     findings.push(Finding {

@@ -2,10 +2,9 @@
 
 ghost use Rattle.std.specs.Prelude.{◌≡◌, IfOk, slice_get};
 ghost use Rattle.mrp_loops.specs.Needs.{AreWithin};
-ghost use Rattle.mrp_survey.specs.Loops.{AreFound, FindsLoops, along, count_of, edges_of, file_lines, first_number, loop_told, name_of, names_along, places_along};
+ghost use Rattle.mrp_survey.specs.Loops.{AreFound, along, count_of, edges_of, file_lines, first_number, loop_told, name_of, names_along, places_along};
 
-use crate::bill_lines::{BillLine, bill_lines};
-use crate::form::Form;
+use crate::bill_lines::BillLine;
 use crate::found_loop::FoundLoop;
 use crate::known::Known;
 use crate::sheet::Sheet;
@@ -123,7 +122,7 @@ fn edges_of(alloc: Global, lines: &[BillLine]) -> Result<Vec<Line>, NoMemory>
 }
 
 // The sets of items that need one another by these bill lines.
-fn loops_among(
+pub(crate) fn loops_among(
     alloc: Global,
     items: &Option<Known>,
     sheet: &Sheet<'_>,
@@ -139,25 +138,4 @@ fn loops_among(
         found.push(found_loop(alloc, items, sheet, lines, own)?)?;
     }
     Ok(found)
-}
-
-// The sets of items that need one another by a table's records.
-pub(crate) fn find_loops(
-    alloc: Global,
-    form: Form,
-    items: &Option<Known>,
-    sheet: &Option<Sheet<'_>>,
-) -> Result<Vec<FoundLoop>, NoMemory>
-    ensures { IfOk result (λ found. FindsLoops form items.now sheet.now found.items) }
-{
-    let Some(sheet) = sheet else {
-        return Ok(Vec::new(alloc));
-    };
-    match sheet.rows_below(alloc, form)? {
-        Some(mut reader) => {
-            let lines = bill_lines(alloc, form, items, sheet, &mut reader)?;
-            loops_among(alloc, items, sheet, &lines)
-        }
-        None => Ok(Vec::new(alloc)),
-    }
 }

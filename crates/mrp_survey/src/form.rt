@@ -1,14 +1,12 @@
 //! Of which kind each cell of a table's records has to be.
 
 ghost use Rattle.std.specs.Prelude.{◌≡◌};
-ghost use Rattle.csv.specs.Records.{fields_of};
 ghost use Rattle.mrp_tables.specs.Items.{greatest_size, least_size};
 ghost use Rattle.mrp_survey.specs.Forms.{bill_kind, calendar_kind, call_in, call_kind, cell_in, centre_kind, dated_key, dated_kind, entry_place, item_kind, kind_of, lot_in, master_kind, receipt_kind, routing_kind, script_kind, stock_kind};
 
 use crate::kind::{Kind, Words, read_word, wrong};
-use csv::ByteRecord;
 use mrp_cal::MOST_WEEKS;
-use mrp_rows::Table;
+use mrp_rows::{Record, Table};
 use mrp_tables::limits::{
     GREATEST_OPERATION, MOST_DESKS, MOST_ENTRIES, MOST_LEAST, MOST_MINUTES, MOST_OFFSET, MOST_PER,
     MOST_PERIOD, MOST_PIECES, MOST_RUN, MOST_SCRAP, MOST_SETUP, MOST_STEP,
@@ -24,11 +22,11 @@ pub(crate) struct Form {
     pub(crate) has_version: bool,
 }
 
-/// A record's cell in a column, counted from 0; empty past the last.
-pub fn cell_in(row: &ByteRecord, column: usize) -> &[u8]
-    ensures { result.now ≡ cell_in (fields_of row.now) column }
+/// A record's cell in a column, counted from 0; empty past the last that is kept.
+pub fn cell_in(row: &Record, column: usize) -> &[u8]
+    ensures { result.now ≡ cell_in row.now column }
 {
-    row.get(column).unwrap_or(b"")
+    row.cell(column)
 }
 
 // Which entry of the calendar a record is: 0 a version, 1 the start, 2 the weeks, 3 the workdays, and then holidays.
@@ -73,8 +71,8 @@ fn dated_kind(place: usize) -> Kind
 }
 
 // Where a key is wrong, its value is not read.
-fn calendar_kind(form: Form, number: usize, row: &ByteRecord, column: usize) -> Kind
-    ensures { result ≡ calendar_kind form number (fields_of row.now) column }
+fn calendar_kind(form: Form, number: usize, row: &Record, column: usize) -> Kind
+    ensures { result ≡ calendar_kind form number row.now column }
 {
     let place = entry_place(form, number);
     let key = Kind::Word(dated_key(place));
@@ -89,8 +87,8 @@ fn calendar_kind(form: Form, number: usize, row: &ByteRecord, column: usize) -> 
 }
 
 // The place of an item's lot rule; that of `lfl` where it is wrong.
-fn lot_in(row: &ByteRecord) -> usize
-    ensures { result ≡ lot_in (fields_of row.now) }
+fn lot_in(row: &Record) -> usize
+    ensures { result ≡ lot_in row.now }
 {
     read_word(cell_in(row, 4), Words::LotRules).unwrap_or(0)
 }
@@ -126,8 +124,8 @@ fn from_one(most: u64) -> Kind
     Kind::Number { least: 1, most }
 }
 
-fn item_kind(version: Version, row: &ByteRecord, column: usize) -> Kind
-    ensures { result ≡ item_kind version (fields_of row.now) column }
+fn item_kind(version: Version, row: &Record, column: usize) -> Kind
+    ensures { result ≡ item_kind version row.now column }
 {
     match column {
         0 => Kind::Name,
@@ -206,8 +204,8 @@ fn master_kind(version: Version, column: usize) -> Kind
 }
 
 // The place of a script's call; past the last where it is wrong.
-fn call_in(row: &ByteRecord) -> usize
-    ensures { result ≡ call_in (fields_of row.now) }
+fn call_in(row: &Record) -> usize
+    ensures { result ≡ call_in row.now }
 {
     read_word(cell_in(row, 1), Words::Calls).unwrap_or(5)
 }
@@ -225,8 +223,8 @@ fn call_kind(call: usize, column: usize) -> Kind
     }
 }
 
-fn script_kind(row: &ByteRecord, column: usize) -> Kind
-    ensures { result ≡ script_kind (fields_of row.now) column }
+fn script_kind(row: &Record, column: usize) -> Kind
+    ensures { result ≡ script_kind row.now column }
 {
     match column {
         0 => from_one(MOST_DESKS),
@@ -236,8 +234,8 @@ fn script_kind(row: &ByteRecord, column: usize) -> Kind
 }
 
 // The kind of a record's cell, by the record's number, from 1, and the cell's column, from 0.
-pub(crate) fn kind_of(form: Form, number: usize, row: &ByteRecord, column: usize) -> Kind
-    ensures { result ≡ kind_of form number (fields_of row.now) column }
+pub(crate) fn kind_of(form: Form, number: usize, row: &Record, column: usize) -> Kind
+    ensures { result ≡ kind_of form number row.now column }
 {
     match form.table {
         Table::Calendar => calendar_kind(form, number, row, column),

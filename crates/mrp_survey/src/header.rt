@@ -1,19 +1,19 @@
 //! The columns of a table, its header, and how many records it may have.
 
-ghost use Rattle.std.specs.Prelude.{◌≡◌, map, nat_eq};
-ghost use Rattle.std.specs.Cmp.Lexicographic.{pointwise};
-ghost use Rattle.csv.specs.Records.{fields_of};
+ghost use Rattle.std.specs.Prelude.{◌≡◌, map};
 ghost use Rattle.mrp_tables.specs.Versions.{item_columns};
-ghost use Rattle.mrp_survey.specs.Headers.{are_like_columns, can_be_read, columns_in, is_header, is_like, limit_of, table_columns};
+ghost use Rattle.mrp_survey.specs.Headers.{are_columns, are_like_columns, can_be_read, columns_in, is_header, is_like, limit_of, table_columns};
 
 use crate::form::{Form, cell_in};
 use crate::known::trimmed;
-use csv::ByteRecord;
-use mrp_rows::Table;
+use mrp_rows::{Record, Table};
 use mrp_tables::Version;
 use mrp_tables::limits::{
     MOST_CALENDAR_RECORDS, MOST_CENTRES, MOST_ITEMS, MOST_OPERATIONS, MOST_ROWS,
 };
+
+/// The most cells of a header that are looked at: as many as a spreadsheet has columns.
+pub const HEADER_CELLS: usize = 16_384;
 
 // The names of the columns of items.
 fn item_columns(version: Version) -> &'static [&'static str]
@@ -69,10 +69,10 @@ pub(crate) fn most_records(form: Form) -> Option<usize>
 }
 
 /// Whether a record's cells are these names, in order.
-pub fn are_columns(row: &ByteRecord, names: &[&str]) -> bool
-    ensures { result ≡ pointwise (pointwise nat_eq) (fields_of row.now) (map (λ c. c.now) names.now) }
+pub fn are_columns(row: &Record, names: &[&str]) -> bool
+    ensures { result ≡ are_columns row.now (map (λ c. c.now) names.now) }
 {
-    if row.len() != names.len() {
+    if row.count() != names.len() || row.kept() != names.len() {
         return false;
     }
     for (column, name) in names.iter().enumerate() {
@@ -84,8 +84,8 @@ pub fn are_columns(row: &ByteRecord, names: &[&str]) -> bool
 }
 
 // Whether a record is the table's header.
-pub(crate) fn is_header(form: Form, row: &ByteRecord) -> bool
-    ensures { result ≡ is_header form (fields_of row.now) }
+pub(crate) fn is_header(form: Form, row: &Record) -> bool
+    ensures { result ≡ is_header form row.now }
 {
     are_columns(row, columns(form))
 }
@@ -98,10 +98,10 @@ pub fn is_like(cell: &[u8], name: &str) -> bool
 }
 
 /// Whether a record's cells are these names, in order, but for capitals and spaces at their ends.
-pub fn are_like(row: &ByteRecord, names: &[&str]) -> bool
-    ensures { result ≡ are_like_columns (fields_of row.now) (map (λ c. c.now) names.now) }
+pub fn are_like(row: &Record, names: &[&str]) -> bool
+    ensures { result ≡ are_like_columns row.now (map (λ c. c.now) names.now) }
 {
-    if row.len() != names.len() {
+    if row.count() != names.len() || row.kept() != names.len() {
         return false;
     }
     for (column, name) in names.iter().enumerate() {
@@ -113,8 +113,8 @@ pub fn are_like(row: &ByteRecord, names: &[&str]) -> bool
 }
 
 // Whether the records below a header can be read.
-pub(crate) fn can_be_read(form: Form, header: &ByteRecord) -> bool
-    ensures { result ≡ can_be_read form (fields_of header.now) }
+pub(crate) fn can_be_read(form: Form, header: &Record) -> bool
+    ensures { result ≡ can_be_read form header.now }
 {
     are_like(header, columns(form))
 }

@@ -25,8 +25,8 @@ impl Model for Known {
 }
 
 impl Known {
-    ghost use Rattle.std.specs.Prelude.{◌≡◌, [], OnOk, is_some, length};
-    ghost use Rattle.mrp_survey.specs.Names.{class_among, is_among, name_at, place_among, with_name};
+    ghost use Rattle.std.specs.Prelude.{◌≡◌, [], OnOk, is_some, length, option_map};
+    ghost use Rattle.mrp_survey.specs.Names.{class_among, is_among, joined, name_at, place_among, with_name};
 
     // No names.
     pub(crate) fn new(alloc: Global) -> Known
@@ -53,11 +53,16 @@ impl Known {
         }
     }
 
-    // The place of a name.
-    pub(crate) fn place_of(&self, name: &Name) -> Option<usize>
-        ensures { result ≡ place_among self.now name.now }
+    // The place of a name, and its class.
+    pub(crate) fn find(&self, name: &Name) -> Option<(usize, Option<Class>)>
+        ensures place { option_map (λ own. own.0) result ≡ place_among self.now name.now }
+        ensures class { joined (option_map (λ own. own.1) result) ≡ class_among self.now name.now }
+        ensures found { is_some result ≡ is_among self.now name.now }
     {
-        self.classes.get_index_of(name)
+        match self.classes.get_full(name) {
+            Some((place, _, class)) => Some((place, *class)),
+            None => None,
+        }
     }
 
     // Whether the name is one of them.
@@ -65,16 +70,6 @@ impl Known {
         ensures { result ≡ is_among self.now name.now }
     {
         self.classes.contains_key(name)
-    }
-
-    // The class of a name, where it is known.
-    pub(crate) fn class_of(&self, name: &Name) -> Option<Class>
-        ensures { result ≡ class_among self.now name.now }
-    {
-        match self.classes.get(name) {
-            Some(class) => *class,
-            None => None,
-        }
     }
 
     // Adds a name, unless it is there.

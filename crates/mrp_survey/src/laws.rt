@@ -8,7 +8,7 @@ ghost use Rattle.mrp_survey.specs.declared.form.Form.{Form};
 ghost use Rattle.mrp_survey.specs.declared.rule.Beside.{Beside};
 ghost use Rattle.mrp_survey.specs.CellLaws.{TellsEachCell, TellsEachRecord};
 ghost use Rattle.mrp_survey.specs.Entry.{Entry};
-ghost use Rattle.mrp_survey.specs.Forms.{Row};
+ghost use Rattle.mrp_survey.specs.Forms.{AllCells};
 ghost use Rattle.mrp_survey.specs.LineLaws.{AreLinesOf, line_ends};
 ghost use Rattle.mrp_survey.specs.Lines.{at_start, line_behind};
 ghost use Rattle.mrp_survey.specs.LoopLaws.{TellsEachItem};
@@ -34,7 +34,7 @@ pub fn each_wrong_cell_is_told()
 
 /// Of each record within its table's limit all that is wrong with it is told, and nothing else.
 pub fn each_record_is_told()
-    ensures { (form : Form) (beside : Beside) (records : Records) (rows : List Row) → TellsEachRecord form beside records rows }
+    ensures { (form : Form) (beside : Beside) (records : Records) (rows : List AllCells) → TellsEachRecord form beside records rows }
 {}
 
 /// Each item that needs itself is in a set that is told, by bill lines that lead from an item to itself.

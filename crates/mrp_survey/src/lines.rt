@@ -2,11 +2,11 @@
 
 ghost use Rattle.std.specs.Prelude.{◌≡◌, ◌≤◌, ◌<◌, ◌^◌, ◌+◌, ◌&&◌, ◌||◌, ◌==◌, ℕ, IfOk, false, length, not, slice_index};
 ghost use Rattle.csv.specs.Reading.{strip_bom};
-ghost use Rattle.mrp_rows.specs.Bundle.{ends_line};
 ghost use Rattle.mrp_survey.specs.Lines.{at_start, begins_record, ends_own_line, is_between, is_special, lines_from, record_lines, spot_after, step_to};
 
 use memchr::memchr3;
 use mrp_qty::NoMemory;
+use mrp_rows::is_line_end;
 use std::alloc::Global;
 
 // Where a byte of a text stands among its records.
@@ -31,13 +31,6 @@ pub(crate) struct Reading {
     // Whether the byte in front is a carriage return, so that a line feed ends no further line.
     pub(crate) after_return: bool,
     pub(crate) line: u64,
-}
-
-/// Whether a byte is a line feed or a carriage return.
-pub fn is_line_end(byte: u8) -> bool
-    ensures { result ≡ ends_line byte }
-{
-    byte == b'\n' || byte == b'\r'
 }
 
 /// Whether a line ends with a byte: a line feed behind a carriage return ends no further line.

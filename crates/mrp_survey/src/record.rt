@@ -1,13 +1,11 @@
 //! A record of a table, and what its cells are read as.
 
 ghost use Rattle.std.specs.Prelude.{◌≡◌};
-ghost use Rattle.csv.specs.Records.{fields_of};
-ghost use Rattle.mrp_survey.specs.Entries.{are_empty};
+ghost use Rattle.mrp_survey.specs.Entries.{are_empty, are_empty_from};
 
 use crate::finding::Place;
 use crate::form::{Form, cell_in, kind_of};
 use crate::kind::{Kind, read_within, read_word, wrong};
-use csv::ByteRecord;
 use jiff::civil::Date;
 use mrp_cal::read_date;
 use mrp_rows::{Name, Table};
@@ -18,34 +16,32 @@ use std::marker::Model;
 pub(crate) struct Record<'a> {
     pub(crate) form: Form,
     pub(crate) place: Place,
-    pub(crate) row: &'a ByteRecord,
+    pub(crate) row: &'a mrp_rows::Record,
 }
 
 impl<'a> Model for Record<'a> {
-    ghost use Rattle.csv.specs.Records.{fields_of};
     ghost use Rattle.mrp_survey.specs.Entry.{Entry};
 
     ghost Value = { Entry };
 
-    ghost view = { λ r. record { form = r.form; place = r.place; row = fields_of r.row.now } };
+    ghost view = { λ r. record { form = r.form; place = r.place; row = r.row.now } };
 }
 
 impl<'a> Record<'a> {
-    ghost use Rattle.std.specs.Prelude.{◌≡◌, length};
-    ghost use Rattle.csv.specs.Records.{fields_of};
+    ghost use Rattle.std.specs.Prelude.{◌≡◌};
     ghost use Rattle.mrp_survey.specs.Entries.{date_in, kind_in, name_in, number_in, word_in, wrong_in};
 
-    pub(crate) fn of(form: Form, place: Place, row: &'a ByteRecord) -> Record<'a>
-        ensures { result ≡ record { form = form; place = place; row = fields_of row.now } }
+    pub(crate) fn of(form: Form, place: Place, row: &'a mrp_rows::Record) -> Record<'a>
+        ensures { result ≡ record { form = form; place = place; row = row.now } }
     {
         Record { form, place, row }
     }
 
     // How many cells it has.
     pub(crate) fn len(&self) -> usize
-        ensures { result ≡ length self.now.row }
+        ensures { result ≡ self.now.row.count }
     {
-        self.row.len()
+        self.row.count()
     }
 
     pub(crate) fn table(&self) -> Table
@@ -113,14 +109,21 @@ impl<'a> Record<'a> {
     }
 }
 
-/// Whether all cells of a record are empty.
-pub fn are_empty(row: &ByteRecord) -> bool
-    ensures { result ≡ are_empty (fields_of row.now) }
+/// Whether all cells of a record are empty from a column on, one that is kept or the first that is not.
+pub fn are_empty_from(row: &mrp_rows::Record, place: usize) -> bool
+    ensures { result ≡ are_empty_from row.now place }
 {
-    for column in 0..row.len() {
+    for column in place..row.kept() {
         if !cell_in(row, column).is_empty() {
             return false;
         }
     }
-    true
+    row.are_others_empty()
+}
+
+// Whether all cells of a record are empty.
+pub(crate) fn are_empty(row: &mrp_rows::Record) -> bool
+    ensures { result ≡ are_empty row.now }
+{
+    are_empty_from(row, 0)
 }

@@ -2,6 +2,7 @@
 
 ghost use Rattle.std.specs.Prelude.{◌≡◌};
 ghost use Rattle.mrp_survey.specs.Rules.{broken, class_fault, has_gone_out, is_unknown, is_unstocked, key_column, key_of, marked_if, misfit, not_master, repeated, row_fault, rules_of, service_fault};
+ghost use Rattle.mrp_survey.specs.Sought.{item_columns, named_of, sought_in};
 
 use crate::finding::What;
 use crate::form::Form;
@@ -35,6 +36,102 @@ pub(crate) struct Beside {
     pub(crate) items: Option<Known>,
     pub(crate) centres: Option<Known>,
     pub(crate) calendar: Option<Calendar>,
+}
+
+// What a name of an item is among the known items.
+#[derive(Clone, Copy)]
+pub(crate) struct Sought {
+    // Whether it is known to be none of them.
+    pub(crate) is_unknown: bool,
+    pub(crate) place: Option<usize>,
+    pub(crate) class: Option<Class>,
+}
+
+const UNSOUGHT: Sought = Sought {
+    is_unknown: false,
+    place: None,
+    class: None,
+};
+
+// What a record's names of items are among the known items, looked up once.
+#[derive(Clone, Copy)]
+pub(crate) struct Named {
+    first_column: usize,
+    first: Sought,
+    second_column: usize,
+    second: Sought,
+}
+
+// The columns of a table's items: twice the same where it has one.
+fn item_columns(table: Table) -> (usize, usize)
+    ensures { result ≡ item_columns table }
+{
+    match table {
+        Table::Bills => (0, 1),
+        Table::Script => (2, 2),
+        _ => (0, 0),
+    }
+}
+
+// What the name in a column is among the known items.
+fn seek(items: &Option<Known>, entry: &Record<'_>, column: usize) -> Sought
+    ensures { result ≡ sought_in items.now entry.now column }
+{
+    let Some(items) = items else {
+        return UNSOUGHT;
+    };
+    let Some(name) = entry.name(column) else {
+        return UNSOUGHT;
+    };
+    match items.find(&name) {
+        Some((place, class)) => Sought {
+            is_unknown: false,
+            place: Some(place),
+            class,
+        },
+        None => Sought {
+            is_unknown: true,
+            ..UNSOUGHT
+        },
+    }
+}
+
+// Looks a record's names of items up.
+pub(crate) fn look_up(items: &Option<Known>, entry: &Record<'_>) -> Named
+    ensures { result ≡ named_of items.now entry.now }
+{
+    let (first_column, second_column) = item_columns(entry.table());
+    let first = seek(items, entry, first_column);
+    let second = if first_column == second_column {
+        first
+    } else {
+        seek(items, entry, second_column)
+    };
+    Named {
+        first_column,
+        first,
+        second_column,
+        second,
+    }
+}
+
+// What the name in a column is among the known items, looked up before for a column of items.
+pub(crate) fn found_in(
+    items: &Option<Known>,
+    named: &Named,
+    entry: &Record<'_>,
+    column: usize,
+) -> Sought
+    requires { named.now ≡ named_of items.now entry.now }
+    ensures { result ≡ sought_in items.now entry.now column }
+{
+    if column == named.first_column {
+        named.first
+    } else if column == named.second_column {
+        named.second
+    } else {
+        seek(items, entry, column)
+    }
 }
 
 // The rules of a table's records, in the order of their faults.
@@ -176,12 +273,16 @@ fn class_fault(entry: &Record<'_>, class: Class) -> Option<What>
 }
 
 // The same of the item in a column, where its class is known.
-pub(crate) fn misfit(items: &Option<Known>, entry: &Record<'_>, column: usize) -> Option<What>
+pub(crate) fn misfit(
+    items: &Option<Known>,
+    named: &Named,
+    entry: &Record<'_>,
+    column: usize,
+) -> Option<What>
+    requires { named.now ≡ named_of items.now entry.now }
     ensures { result ≡ misfit items.now entry.now column }
 {
-    let items = items.as_ref()?;
-    let name = entry.name(column)?;
-    let class = items.class_of(&name)?;
+    let class = found_in(items, named, entry, column).class?;
     class_fault(entry, class)
 }
 
@@ -196,9 +297,11 @@ fn marked_if(wrong: bool, column: usize, what: What) -> Option<(usize, What)>
 pub(crate) fn broken(
     rule: Rule,
     beside: &Beside,
+    named: &Named,
     seen: &Seen,
     entry: &Record<'_>,
 ) -> Option<(usize, What)>
+    requires { named.now ≡ named_of beside.now.items entry.now }
     ensures { result ≡ broken beside.now seen.now entry.now rule }
 {
     match rule {
@@ -207,8 +310,8 @@ pub(crate) fn broken(
             Some((key_column(entry.table()), What::Repeated { line }))
         }
         Rule::Item(column) => {
-            let wrong = is_unknown(&beside.items, entry, column);
-            marked_if(wrong, column, What::UnknownItem)
+            let found = found_in(&beside.items, named, entry, column);
+            marked_if(found.is_unknown, column, What::UnknownItem)
         }
         Rule::Centre(column) => {
             let wrong = is_unknown(&beside.centres, entry, column);
@@ -219,7 +322,7 @@ pub(crate) fn broken(
             marked_if(wrong, column, What::DateOutside)
         }
         Rule::OfClass(column) => {
-            let what = misfit(&beside.items, entry, column)?;
+            let what = misfit(&beside.items, named, entry, column)?;
             Some((column, what))
         }
         Rule::Unstocked => marked_if(!is_unstocked(entry), 6, What::MasterSafety),

@@ -3,12 +3,11 @@
 use crate::finding::Place;
 use crate::form::Form;
 use crate::front::{Front, front_of};
-use crate::header::can_be_read;
+use crate::header::{HEADER_CELLS, can_be_read, columns};
 use crate::lines::record_lines;
-use crate::rows::{all_rows, new_row, next_row, reader_of};
-use csv::{ByteRecord, Reader};
+use crate::rows::all_rows;
 use mrp_qty::NoMemory;
-use mrp_rows::Table;
+use mrp_rows::{Record, Records, Table};
 use std::alloc::Global;
 use std::marker::Model;
 
@@ -32,11 +31,10 @@ impl<'a> Model for Sheet<'a> {
 }
 
 impl<'a> Sheet<'a> {
-    ghost use Rattle.std.specs.Prelude.{◌≡◌, ◌≤◌, ◌^◌, IfOk, IfSome, map, option_map, slice_index};
-    ghost use Rattle.csv.specs.Records.{fields_of};
-    ghost use Rattle.mrp_rows.specs.Reading.{IsReading, records_after};
+    ghost use Rattle.std.specs.Prelude.{◌≡◌, ◌≤◌, ◌^◌, IfOk, map, option_map, slice_index};
     ghost use Rattle.mrp_survey.specs.Records.{place_of, records_from, rows_below};
-    ghost use Rattle.mrp_survey.specs.Headers.{header_of};
+    ghost use Rattle.mrp_survey.specs.Headers.{header_of, header_shown};
+    ghost use Rattle.mrp_survey.specs.Tables.{row_shown};
 
     // The records of a text that begins in this line of a file.
     pub(crate) fn of(
@@ -72,31 +70,30 @@ impl<'a> Sheet<'a> {
     }
 
     // The first record.
-    pub(crate) fn header(&self, alloc: Global) -> Result<Option<ByteRecord>, NoMemory>
-        ensures { IfOk result (λ header. option_map (λ row. fields_of row) header ≡ header_of self.now.rows) }
+    pub(crate) fn header(&self, alloc: Global) -> Result<Option<Record>, NoMemory>
+        ensures { IfOk result (λ header. header ≡ option_map header_shown (header_of self.now.rows)) }
     {
-        let mut reader = reader_of(alloc, self.text);
-        let mut row = new_row(alloc)?;
-        if next_row(&mut reader, &mut row)? {
+        let mut records = Records::of(self.text);
+        let mut row = Record::new(alloc);
+        if records.next(HEADER_CELLS, &mut row)? {
             Ok(Some(row))
         } else {
             Ok(None)
         }
     }
 
-    // A reader of the records below the header, if that can be read.
+    // The records below the header, if that can be read.
     pub(crate) fn rows_below(
         &self,
         alloc: Global,
         form: Form,
-    ) -> Result<Option<Reader<&'a [u8]>>, NoMemory>
-        ensures reading { IfOk result (λ below. IfSome below IsReading) }
-        ensures rows { IfOk result (λ below. option_map records_after below ≡ rows_below form self.now) }
+    ) -> Result<Option<Records<'a>>, NoMemory>
+        ensures { IfOk result (λ below. below ≡ rows_below form self.now) }
     {
-        let mut reader = reader_of(alloc, self.text);
-        let mut header = new_row(alloc)?;
-        if next_row(&mut reader, &mut header)? && can_be_read(form, &header) {
-            Ok(Some(reader))
+        let mut records = Records::of(self.text);
+        let mut header = Record::new(alloc);
+        if records.next(HEADER_CELLS, &mut header)? && can_be_read(form, &header) {
+            Ok(Some(records))
         } else {
             Ok(None)
         }
@@ -107,16 +104,14 @@ impl<'a> Sheet<'a> {
         &self,
         alloc: Global,
         form: Form,
-    ) -> Result<Option<Vec<ByteRecord>>, NoMemory>
-        ensures { IfOk result (λ below. option_map (λ rows. map (λ row. fields_of row) rows.items) below ≡ rows_below form self.now) }
+    ) -> Result<Option<Vec<Record>>, NoMemory>
+        ensures { IfOk result (λ below. option_map (λ rows. rows.items) below ≡ option_map (map (row_shown form)) (rows_below form self.now)) }
     {
-        match self.rows_below(alloc, form)? {
-            Some(mut reader) => {
-                let rows = all_rows(alloc, &mut reader)?;
-                Ok(Some(rows))
-            }
-            None => Ok(None),
-        }
+        let Some(mut records) = self.rows_below(alloc, form)? else {
+            return Ok(None);
+        };
+        let rows = all_rows(alloc, columns(form).len(), &mut records)?;
+        Ok(Some(rows))
     }
 
     // The line in which a record begins, by its number, the header's 0.

@@ -4,8 +4,8 @@ ghost use Rattle.std.specs.Prelude.{◌≡◌, ◌≤◌, ◌^◌};
 ghost use Rattle.mrp_rows.specs.Bundle.{without_line_ends};
 ghost use Rattle.mrp_survey.specs.Lines.{at_start, line_behind};
 
-use crate::lines::{Reading, after_mark, is_line_end};
-use mrp_rows::Table;
+use crate::lines::{Reading, after_mark};
+use mrp_rows::{Table, is_line_end};
 
 /// The text of a table, and where it stands.
 #[derive(Clone, Copy)]

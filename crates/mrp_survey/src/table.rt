@@ -1,7 +1,6 @@
 //! What is told of a table's records.
 
 ghost use Rattle.std.specs.Prelude.{◌≡◌, ◌++◌, [], IfOk, OnOk};
-ghost use Rattle.mrp_rows.specs.Reading.{IsReading, records_after};
 ghost use Rattle.mrp_tables.specs.Reading.{is_past};
 ghost use Rattle.mrp_survey.specs.Tables.{class_in, empty_told, header_told, names_after, names_in, told_from};
 
@@ -10,13 +9,12 @@ use crate::form::{Form, cell_in};
 use crate::header::{columns, is_header, most_records};
 use crate::known::{Known, known_name};
 use crate::record::Record;
-use crate::rows::{new_row, next_row};
-use crate::rule::Beside;
+use crate::rule::{Beside, look_up};
 use crate::seen::Seen;
 use crate::sheet::Sheet;
 use crate::tell::{add_key, tell_record};
-use csv::{ByteRecord, Reader};
 use mrp_qty::NoMemory;
+use mrp_rows::Records;
 use mrp_tables::Class;
 use std::alloc::Global;
 
@@ -46,7 +44,7 @@ fn tell_empty(
     };
     tell(
         place,
-        &ByteRecord::new(alloc),
+        &mrp_rows::Record::new(alloc),
         0,
         What::Header {
             front: sheet.front(),
@@ -91,18 +89,17 @@ pub(crate) fn tell_rows(
     form: Form,
     beside: &Beside,
     sheet: &Sheet<'_>,
-    reader: &mut Reader<&[u8]>,
+    records: &mut Records<'_>,
     findings: &mut Vec<Finding>,
 ) -> Result<(), NoMemory>
-    requires { IsReading reader.old }
-    ensures { OnOk result (findings.new.items ≡ findings.old.items ++ told_from form beside.now sheet.now [] 1 (records_after reader.old)) }
+    ensures { OnOk result (findings.new.items ≡ findings.old.items ++ told_from form beside.now sheet.now [] 1 records.old) }
 {
     let width = columns(form).len();
     let limit = most_records(form);
     let mut seen = Seen::new(alloc);
-    let mut row = new_row(alloc)?;
+    let mut row = mrp_rows::Record::new(alloc);
     for number in 1..usize::MAX {
-        if !next_row(reader, &mut row)? {
+        if !records.next(width, &mut row)? {
             return Ok(());
         }
         let place = sheet.place(form.table, number);
@@ -110,7 +107,8 @@ pub(crate) fn tell_rows(
             return tell(place, &row, 0, What::TooMany, findings);
         }
         let entry = Record::of(form, place, &row);
-        tell_record(width, beside, &seen, &entry, findings)?;
+        let named = look_up(&beside.items, &entry);
+        tell_record(width, beside, &named, &seen, &entry, findings)?;
         add_key(width, &entry, &mut seen)?;
     }
     // More records than can be numbered.
@@ -140,28 +138,36 @@ fn add_name(width: usize, entry: &Record<'_>, names: &mut Known) -> Result<(), N
     }
 }
 
-// The names of a table's records below its header; none if it has too many records.
-pub(crate) fn names_in(
+// The same, with the names of these records; none if there are too many.
+pub(crate) fn tell_named_rows(
     alloc: Global,
     form: Form,
+    beside: &Beside,
     sheet: &Sheet<'_>,
-    reader: &mut Reader<&[u8]>,
+    records: &mut Records<'_>,
+    findings: &mut Vec<Finding>,
 ) -> Result<Option<Known>, NoMemory>
-    requires { IsReading reader.old }
-    ensures { IfOk result (λ names. names ≡ names_in form sheet.now (records_after reader.old)) }
+    ensures told { OnOk result (findings.new.items ≡ findings.old.items ++ told_from form beside.now sheet.now [] 1 records.old) }
+    ensures names { IfOk result (λ names. names ≡ names_in form sheet.now records.old) }
 {
     let width = columns(form).len();
     let limit = most_records(form);
+    let mut seen = Seen::new(alloc);
     let mut names = Known::new(alloc);
-    let mut row = new_row(alloc)?;
+    let mut row = mrp_rows::Record::new(alloc);
     for number in 1..usize::MAX {
-        if !next_row(reader, &mut row)? {
+        if !records.next(width, &mut row)? {
             return Ok(Some(names));
         }
+        let place = sheet.place(form.table, number);
         if is_past(limit, number) {
+            tell(place, &row, 0, What::TooMany, findings)?;
             return Ok(None);
         }
-        let entry = Record::of(form, sheet.place(form.table, number), &row);
+        let entry = Record::of(form, place, &row);
+        let named = look_up(&beside.items, &entry);
+        tell_record(width, beside, &named, &seen, &entry, findings)?;
+        add_key(width, &entry, &mut seen)?;
         add_name(width, &entry, &mut names)?;
     }
     // More records than can be numbered.

@@ -1,26 +1,26 @@
 //! What is told of nine tables.
 
 ghost use Rattle.std.specs.Prelude.{◌≡◌, ◌<◌, ◌++◌, ◌∷◌, [], IfOk, None, OnOk, Some, false, map, option_map};
-ghost use Rattle.csv.specs.Records.{fields_of};
 ghost use Rattle.mrp_tables.specs.declared.version.Version.TheVariants.{One};
-ghost use Rattle.mrp_survey.specs.Survey.{FindsLoopsIn, calendar_among, calendar_told, dated_form, first_told, form_of, items_among, last_told, missing, missing_from, names_among, nothing_beside, records_at, rows_in, survey_told, table_told, version_among, versioned_told};
+ghost use Rattle.mrp_survey.specs.Survey.{FindsLoopsIn, calendar_among, calendar_told, dated_form, first_told, form_of, items_among, last_told, missing, missing_from, names_among, nothing_beside, records_at, rows_in, survey_told, table_told, version_among, version_of_items, versioned_told};
 ghost use Rattle.mrp_survey.specs.InTwo.{IsFirstTold};
 
+use crate::bill_lines::tell_bill_lines;
 use crate::calendar::{calendar_in, has_version, version_in};
 use crate::finding::{Finding, Place, What, tell};
-use crate::finding_loops::find_loops;
+use crate::finding_loops::loops_among;
 use crate::form::{Form, dated_key, entry_place};
 use crate::found_loop::FoundLoop;
+use crate::header::can_be_read;
 use crate::known::Known;
 use crate::rule::Beside;
 use crate::sheet::Sheet;
 use crate::source::Source;
 use crate::surveyed::{Survey, likes_of};
-use crate::table::{names_in, tell_header, tell_rows};
-use csv::ByteRecord;
+use crate::table::{tell_header, tell_named_rows, tell_rows};
 use mrp_cal::Calendar;
 use mrp_qty::NoMemory;
-use mrp_rows::Table;
+use mrp_rows::{Record, Table};
 use mrp_tables::Version;
 use std::alloc::Global;
 use std::thread;
@@ -68,7 +68,7 @@ fn tell_table(
     };
     tell_header(alloc, form, sheet, findings)?;
     match sheet.rows_below(alloc, form)? {
-        Some(mut reader) => tell_rows(alloc, form, beside, sheet, &mut reader, findings),
+        Some(mut records) => tell_rows(alloc, form, beside, sheet, &mut records, findings),
         None => Ok(()),
     }
 }
@@ -78,8 +78,8 @@ fn rows_in(
     alloc: Global,
     form: Form,
     sheet: &Option<Sheet<'_>>,
-) -> Result<Option<Vec<ByteRecord>>, NoMemory>
-    ensures { IfOk result (λ rows. option_map (λ rows. map (λ row. fields_of row) rows.items) rows ≡ rows_in form sheet.now) }
+) -> Result<Option<Vec<Record>>, NoMemory>
+    ensures { IfOk result (λ rows. option_map (λ rows. rows.items) rows ≡ rows_in form sheet.now) }
 {
     match sheet {
         Some(sheet) => sheet.all_below(alloc, form),
@@ -139,7 +139,7 @@ fn tell_lack(
     let key = dated_key(entry_place(form, count + 1));
     tell(
         place,
-        &ByteRecord::new(alloc),
+        &Record::new(alloc),
         0,
         What::Missing { key },
         findings,
@@ -176,10 +176,10 @@ fn tell_calendar(
     let form = dated_form(alloc, &sheet)?;
     tell_table(alloc, form, &nothing_beside(), &sheet, findings)?;
     let Some(sheet) = &sheet else {
-        return Ok(no_dates());
+        return no_dates(alloc, sources);
     };
     let Some(rows) = sheet.all_below(alloc, form)? else {
-        return Ok(no_dates());
+        return no_dates(alloc, sources);
     };
     tell_missing(alloc, form, sheet.file(), rows.len(), findings)?;
     Ok(Dated {
@@ -188,13 +188,31 @@ fn tell_calendar(
     })
 }
 
-fn no_dates() -> Dated
-    ensures { result ≡ record { version = Some One; calendar = None } }
+// The version whose columns the items' header has.
+fn version_of_items(alloc: Global, sources: &[Option<Source<'_>>; 9]) -> Result<Version, NoMemory>
+    ensures { IfOk result (λ version. version ≡ version_of_items (records_at sources.now Table.Items)) }
 {
-    Dated {
-        version: Some(Version::One),
-        calendar: None,
+    let Some(sheet) = sheet_of(alloc, sources, Table::Items)? else {
+        return Ok(Version::One);
+    };
+    let Some(header) = sheet.header(alloc)? else {
+        return Ok(Version::One);
+    };
+    if can_be_read(form_of(Table::Items, Version::Three), &header) {
+        Ok(Version::Three)
+    } else {
+        Ok(Version::One)
     }
+}
+
+// What no calendar says, where none can be read.
+fn no_dates(alloc: Global, sources: &[Option<Source<'_>>; 9]) -> Result<Dated, NoMemory>
+    ensures { IfOk result (λ dated. dated ≡ record { version = Some (version_of_items (records_at sources.now Table.Items)); calendar = None }) }
+{
+    Ok(Dated {
+        version: Some(version_of_items(alloc, sources)?),
+        calendar: None,
+    })
 }
 
 // Tells what is wrong with the items or the work centres, and returns their names, if the table was read to its end.
@@ -207,13 +225,13 @@ fn tell_named(
     ensures told { OnOk result (findings.new.items ≡ findings.old.items ++ table_told form nothing_beside (records_at sources.now form.table)) }
     ensures names { IfOk result (λ names. names ≡ names_among sources.now form) }
 {
-    let sheet = sheet_of(alloc, sources, form.table)?;
-    tell_table(alloc, form, &nothing_beside(), &sheet, findings)?;
-    let Some(sheet) = &sheet else {
+    let Some(sheet) = sheet_of(alloc, sources, form.table)? else {
         return Ok(None);
     };
+    tell_header(alloc, form, &sheet, findings)?;
+    let beside = nothing_beside();
     match sheet.rows_below(alloc, form)? {
-        Some(mut reader) => names_in(alloc, form, sheet, &mut reader),
+        Some(mut rows) => tell_named_rows(alloc, form, &beside, &sheet, &mut rows, findings),
         None => Ok(None),
     }
 }
@@ -271,9 +289,15 @@ fn tell_bills(
     ensures loops { IfOk result (λ loops. FindsLoopsIn sources.now beside.now.items loops.items) }
 {
     let form = form_of(Table::Bills, Version::One);
-    let sheet = sheet_of(alloc, sources, Table::Bills)?;
-    tell_table(alloc, form, beside, &sheet, findings)?;
-    find_loops(alloc, form, &beside.items, &sheet)
+    let Some(sheet) = sheet_of(alloc, sources, Table::Bills)? else {
+        return Ok(Vec::new(alloc));
+    };
+    tell_header(alloc, form, &sheet, findings)?;
+    let Some(mut rows) = sheet.rows_below(alloc, form)? else {
+        return Ok(Vec::new(alloc));
+    };
+    let lines = tell_bill_lines(alloc, form, beside, &sheet, &mut rows, findings)?;
+    loops_among(alloc, &beside.items, &sheet, &lines)
 }
 
 // Tells what is wrong with the tables from the stock to the bills.

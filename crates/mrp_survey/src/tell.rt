@@ -5,10 +5,11 @@ ghost use Rattle.mrp_survey.specs.Marks.{cell_mark, cell_marks, is_whole, keys_a
 ghost use Rattle.mrp_survey.specs.Rules.{broken};
 ghost use Rattle.std.specs.Option.{option_to_list};
 ghost use Rattle.mrp_survey.specs.Entries.{kind_in, wrong_in};
+ghost use Rattle.mrp_survey.specs.Sought.{named_of};
 
 use crate::finding::{Finding, What, tell};
 use crate::record::{Record, are_empty};
-use crate::rule::{Beside, Rule, broken, key_of, rules};
+use crate::rule::{Beside, Named, Rule, broken, key_of, rules};
 use crate::seen::Seen;
 use mrp_qty::NoMemory;
 
@@ -50,13 +51,15 @@ fn tell_cells(entry: &Record<'_>, findings: &mut Vec<Finding>) -> Result<(), NoM
 fn tell_rule(
     rule: Rule,
     beside: &Beside,
+    named: &Named,
     seen: &Seen,
     entry: &Record<'_>,
     findings: &mut Vec<Finding>,
 ) -> Result<(), NoMemory>
+    requires { named.now ≡ named_of beside.now.items entry.now }
     ensures { OnOk result (findings.new.items ≡ findings.old.items ++ told_of entry.now (option_to_list (broken beside.now seen.now entry.now rule))) }
 {
-    match broken(rule, beside, seen, entry) {
+    match broken(rule, beside, named, seen, entry) {
         Some((column, what)) => tell_mark(entry, column, what, findings),
         None => Ok(()),
     }
@@ -65,26 +68,30 @@ fn tell_rule(
 // Tells of all rules that are broken.
 fn tell_rules(
     beside: &Beside,
+    named: &Named,
     seen: &Seen,
     entry: &Record<'_>,
     findings: &mut Vec<Finding>,
 ) -> Result<(), NoMemory>
+    requires { named.now ≡ named_of beside.now.items entry.now }
     ensures { OnOk result (findings.new.items ≡ findings.old.items ++ told_of entry.now (rule_marks beside.now seen.now entry.now)) }
 {
     for rule in rules(entry.table()) {
-        tell_rule(*rule, beside, seen, entry, findings)?;
+        tell_rule(*rule, beside, named, seen, entry, findings)?;
     }
     Ok(())
 }
 
-// Tells what is wrong with a record of a table with so many columns.
+// Tells what is wrong with a record of a table with so many columns, whose names of items were looked up.
 pub(crate) fn tell_record(
     width: usize,
     beside: &Beside,
+    named: &Named,
     seen: &Seen,
     entry: &Record<'_>,
     findings: &mut Vec<Finding>,
 ) -> Result<(), NoMemory>
+    requires { named.now ≡ named_of beside.now.items entry.now }
     ensures { OnOk result (findings.new.items ≡ findings.old.items ++ told_of entry.now (marks_of width beside.now seen.now entry.now)) }
 {
     if are_empty(entry.row) {
@@ -100,7 +107,7 @@ pub(crate) fn tell_record(
         );
     }
     tell_cells(entry, findings)?;
-    tell_rules(beside, seen, entry, findings)
+    tell_rules(beside, named, seen, entry, findings)
 }
 
 // Whether a record has a cell for each column, and not all of them empty.

@@ -1,7 +1,6 @@
 use Rattle.std.proofs.Common.{◌≡◌, drop}
-use Rattle.csv.specs.Records.{fields_of}
 use Rattle.mrp_advice.specs.Headers.{first_other, tables}
 use Rattle.mrp_advice.proofs.header.first_other.Given as goal
 
 abbrev pub invariant-loop-table : goal.invariant-loop-table
-invariant-loop-table l = first_other l.own (fields_of l.row) tables ≡ first_other l.own (fields_of l.row) (drop l.table-index tables)
+invariant-loop-table l = first_other l.own l.row tables ≡ first_other l.own l.row (drop l.table-index tables)

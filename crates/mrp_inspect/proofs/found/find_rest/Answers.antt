@@ -2,7 +2,7 @@ use Rattle.std.proofs.Common.{◌≡◌, ◌∙◌, ℕ, Bool, List, Option, Vec
 use Rattle.std.specs.declared.alloc.Global.{Global}
 use Rattle.mrp_rows.specs.declared.fault.Table.{Table}
 use Rattle.mrp_words.specs.Folder.{Known}
-use Rattle.mrp_inspect.specs.Found.{AreOthers, IsSiteIf, are_none}
+use Rattle.mrp_inspect.specs.Found.{AreOthers, IsPathKindIf, are_none}
 use Rattle.mrp_inspect.specs.declared.names.Naming.{Naming}
 use Rattle.mrp_inspect.proofs.found.find_rest.Goals as goal
 
@@ -15,6 +15,6 @@ returns g c =
       refl,
       record {
         others = subst (λ (ts : List (Table × Vec ℕ Global)). AreOthers known folder ts c.in_ok-others.others.items) c.deref.ensures.value c.in_ok-others.ensures;
-        site = subst (λ (b : Bool). IsSiteIf b known folder c.in_ok-site.site) bare c.in_ok-site.ensures;
+        path_kind = subst (λ (b : Bool). IsPathKindIf b known folder c.in_ok-path_kind.path_kind) bare c.in_ok-path_kind.ensures;
       },
     )

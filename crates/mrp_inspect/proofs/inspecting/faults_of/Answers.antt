@@ -7,20 +7,13 @@ use Rattle.mrp_inspect.proofs.Listing.{told-is}
 use Rattle.mrp_inspect.proofs.inspecting.faults_of.Goals as goal
 
 pub returns : goal.returns
-returns g c =
-    let lines : List (List ℕ) = lines_of c.args.found.now c.in_ok-survey.survey in
+returns c = λ sources surveys.
+    let lines : List (List ℕ) = lines_of c.args.found.now c.args.survey.now in
     let fault = c.args.fault.now in
     IfOk-weaker c.told_text.result _ _
     (λ text is. record {
-      survey = c.in_ok-survey.survey;
-      surveys = record {
-        findings = c.in_ok-survey.ensures.findings;
-        loops = c.in_ok-survey.ensures.loops;
-        version = c.in_ok-survey.ensures.version;
-        calendar = c.in_ok-survey.ensures.calendar;
-        items = c.in_ok-survey.ensures.items;
-        centres = c.in_ok-survey.ensures.centres;
-      };
+      survey = c.args.survey.now;
+      surveys = surveys;
       text_is = is
           ∙ ap (λ (l : Listed). told_text l fault) (c.in_ok-push_told.ensures ∙ ap (λ (l : Listed). with_lines l lines) (c.new-lines.ensures ∙ ap none_listed c.in_ok-remark.ensures))
           ∙ told-is lines fault;

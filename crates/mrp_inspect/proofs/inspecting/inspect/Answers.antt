@@ -24,7 +24,7 @@ pieces-are contents tables are =
     sym (flat_map-map pieces_of_part lent_of contents) ∙ ap (flat_map pieces_of_part) are ∙ flat_map-map pieces_of_part held_of tables ∙ sym (flat_map-map pieces_of_file part_of tables)
 
 pub inspect_pieces-requires-clause-pieces : goal.inspect_pieces-requires-clause-pieces
-inspect_pieces-requires-clause-pieces g c =
+inspect_pieces-requires-clause-pieces g c = λ _ _.
     let contents : List (Table × Bor (List ℕ)) = c.in_ok-contents.contents.items in
     let tables : List (Table × Vec ℕ Global) = c.as_slice-tables.result.now in
     c.as_slice-4.ensures.value ∙ c.in_ok-pieces.ensures

@@ -1,20 +1,19 @@
-use Rattle.std.proofs.Common.{ℕ, List, Option, subst}
-use Rattle.std.specs.Prelude.{Err, string_bytes}
-use Rattle.mrp_rows.specs.declared.fault.Fault.{Fault}
+use Rattle.std.proofs.Common.{List, Option, Result, subst}
+use Rattle.std.specs.Prelude.{Err, IfOk}
+use Rattle.mrp_bill.specs.Shop.{Shop}
+use Rattle.mrp_qty.specs.declared.memory.NoMemory.{NoMemory}
 use Rattle.mrp_script.specs.Opened.{Opens}
 use Rattle.mrp_script.specs.declared.fault.OpenFault.{OpenFault}
-use Rattle.mrp_script.specs.declared.fault.OpenFault.TheVariants.{Refused}
 use Rattle.mrp_survey.specs.declared.source.Source.{Source}
-use Rattle.mrp_inspect.specs.declared.found.Found.{Found}
-use Rattle.mrp_inspect.specs.Inspected.{IsFaultsText, TellsFaults}
+use Rattle.mrp_survey.specs.Surveyed.{Surveyed}
+use Rattle.mrp_inspect.specs.Inspected.{IsSurveyOf}
 use Rattle.mrp_inspect.proofs.inspecting.inspect_sources.Goals as goal
 
-tells-faults : (bundle : List ℕ) (found : Found) (sources : List (Option Source)) (fault : Fault) (text : List ℕ) → Opens bundle (Err (Refused fault)) → IsFaultsText found sources fault text → TellsFaults bundle found sources text
-tells-faults bundle found sources fault text refuses told = record { fault = fault; refused = refuses.0; known = refuses.1; told = told }
-
-pub returns-in_ok-told-in-Err-Refused : goal.returns-in_ok-told-in-Err-Refused
-returns-in_ok-told-in-Err-Refused g c =
-    let arm = c.in-Err-Refused in
-    let bundle : List ℕ = c.args.bundle.now in
-    let refuses : Opens bundle (Err (Refused arm.fault)) = subst (λ (e : OpenFault). Opens bundle (Err e)) arm.field-0-is arm.ensures in
-    tells-faults bundle c.args.found.now c.args.sources.now arm.fault (string_bytes c.in_ok-told-in-Err-Refused.told) refuses c.in_ok-told-in-Err-Refused.ensures
+pub returns-in-Err : goal.returns-in-Err
+returns-in-Err g c =
+    let both = c.open_and_survey-surveyed in
+    let sources : List (Option Source) = c.args.sources.now in
+    let opens : Opens c.args.bundle.now (Err c.in-Err.why) = subst (λ (r : Result Shop OpenFault). Opens c.args.bundle.now r) c.in-Err.is both.ensures.opened in
+    let surveys : IsSurveyOf sources c.in_ok-survey.survey =
+    subst (λ (r : Result Surveyed NoMemory). IfOk r (IsSurveyOf sources)) c.in_ok-survey.was both.ensures.surveyed in
+    c.inspect_refused.ensures c.args.bundle.now sources opens surveys
