@@ -2,16 +2,23 @@
 
 ghost use Rattle.std.specs.Prelude.{◌<◌, map};
 ghost use Rattle.std.specs.Result.{ForOk};
-ghost use Rattle.mrp_main.specs.Ends.{Ends, HelpEnds, IsDone, RequestEnds};
+ghost use Rattle.std.specs.Int.{IsInRange};
+ghost use Rattle.mrp_words.specs.declared.command.Request.TheVariants as asked;
+ghost use Rattle.mrp_words.specs.declared.command.TheConstants.{MOST_WORKERS};
+ghost use Rattle.mrp_words.specs.Folder.{nothing_known};
 ghost use Rattle.mrp_words.specs.Words.{HasWorkers};
+ghost use Rattle.mrp_open.specs.Ends.{TellsEnd};
+ghost use Rattle.mrp_main.specs.Ends.{Ends, HelpEnds, IsDone, IsNoDesk, NoRequestEnds, RequestEnds};
 
 use crate::check::check_day;
 use crate::day::{make_day, make_day_of_folder};
 use mrp_commands::{Ending, carry_asked, inspect_asked, make_page};
+use mrp_open::open_desk;
 use mrp_rows::{Told, Tries, write_text};
 use mrp_words::{FileStore, NoRequest, Request, read_words};
 use std::alloc::Global;
 use std::convert::AsStr;
+use std::fs::File;
 use std::io::{Read, Write};
 use std::rt::Files;
 use std::sync::Wait;
@@ -37,6 +44,7 @@ fn answer<F: FileStore, R: Read, W: Write>(
     output: &mut Told<W>,
 ) -> Ending
     requires workers { HasWorkers request }
+    requires other { IsNoDesk request }
     ensures { RequestEnds (F.known files.now) R.remaining W.contents input.old input.new output.old output.new request result }
 {
     match request {
@@ -57,26 +65,94 @@ fn answer<F: FileStore, R: Read, W: Write>(
         },
         Request::Carry(words) => carry_asked(rt, alloc, files, &words, output),
         Request::Inspect(folder) => inspect_asked(rt, alloc, files, &folder, output),
+        Request::Desk {
+            workers: _,
+            folder: _,
+        } => unreachable!(),
     }
 }
 
-// Does what was asked for. It does not get the error stream, so nothing depends on that.
-fn carry_out<F: FileStore, R: Read, W: Write>(
-    rt: &(impl Alloc + Threads + Wait + Sync),
+// Does what words ask for that are no request.
+fn answer_none<W: Write>(none: NoRequest, output: &mut Told<W>) -> Ending
+    ensures { NoRequestEnds W.contents output.old output.new none result }
+{
+    match none {
+        NoRequest::Help(text) => write_help(&text, output),
+        NoRequest::Usage(text) => Ending::Usage(text),
+        NoRequest::NoMemory => Ending::NoMemory,
+    }
+}
+
+// Opens the order desk that was asked for.
+fn serve_asked<I: Read, W: Write, E: Write>(
+    rt: &(impl Alloc + Eprint + Files<File = File> + Threads + Wait + Sync),
     alloc: Global,
-    files: &F,
-    asked: Result<Request, NoRequest>,
-    input: &mut Told<R>,
+    workers: usize,
+    folder: &Option<String>,
+    input: &mut Told<I>,
     output: &mut Told<W>,
+    errors: &mut Told<E>,
+) -> Ending
+    requires { IsInRange 1 MOST_WORKERS workers }
+    ensures ends { RequestEnds nothing_known I.remaining W.contents input.old input.new output.old output.new (asked.Desk workers folder.now) result }
+    ensures told { TellsEnd E.contents errors.old errors.new result }
+{
+    match folder {
+        Some(folder) => open_desk(rt, alloc, folder, workers, input, output, errors),
+        None => {
+            let end = Ending::Usage(String::new(alloc));
+            let _ = end.tell(errors);
+            end
+        }
+    }
+}
+
+// Does what a request asks for, and tells how it ended. Nothing but an order desk gets the error stream, so nothing else
+// depends on that.
+fn carry_out<I: Read, W: Write, E: Write>(
+    rt: &(impl Alloc + Eprint + Files<File = File> + Threads + Wait + Sync),
+    alloc: Global,
+    request: Request,
+    input: &mut Told<I>,
+    output: &mut Told<W>,
+    errors: &mut Told<E>,
+) -> Ending
+    requires { HasWorkers request }
+    ensures ends { RequestEnds nothing_known I.remaining W.contents input.old input.new output.old output.new request result }
+    ensures told { TellsEnd E.contents errors.old errors.new result }
+{
+    match request {
+        Request::Desk { workers, folder } => {
+            serve_asked(rt, alloc, workers, &folder, input, output, errors)
+        }
+        request => {
+            let end = answer(rt, alloc, rt, request, input, output);
+            let _ = end.tell(errors);
+            end
+        }
+    }
+}
+
+// Does what was asked for, and tells how it ended.
+fn do_asked<I: Read, W: Write, E: Write>(
+    rt: &(impl Alloc + Eprint + Files<File = File> + Threads + Wait + Sync),
+    alloc: Global,
+    asked: Result<Request, NoRequest>,
+    input: &mut Told<I>,
+    output: &mut Told<W>,
+    errors: &mut Told<E>,
 ) -> Ending
     requires { ForOk asked HasWorkers }
-    ensures { Ends (F.known files.now) R.remaining W.contents input.old input.new output.old output.new asked result }
+    ensures ends { Ends nothing_known I.remaining W.contents input.old input.new output.old output.new asked result }
+    ensures told { TellsEnd E.contents errors.old errors.new result }
 {
     match asked {
-        Ok(request) => answer(rt, alloc, files, request, input, output),
-        Err(NoRequest::Help(text)) => write_help(&text, output),
-        Err(NoRequest::Usage(text)) => Ending::Usage(text),
-        Err(NoRequest::NoMemory) => Ending::NoMemory,
+        Ok(request) => carry_out(rt, alloc, request, input, output, errors),
+        Err(none) => {
+            let end = answer_none(none, output);
+            let _ = end.tell(errors);
+            end
+        }
     }
 }
 
@@ -112,7 +188,7 @@ fn carry_out<F: FileStore, R: Read, W: Write>(
 /// Words that ask for help or the version have it written; wrong words have nothing written. Only days, pages and checks
 /// that take the input read it.
 pub fn run_words<S: AsStr, R: Read, W: Write, E: Write>(
-    rt: &(impl Alloc + Files + Threads + Wait + Sync),
+    rt: &(impl Alloc + Eprint + Files<File = File> + Threads + Wait + Sync),
     alloc: Global,
     words: &[S],
     input: &mut Told<R>,
@@ -123,7 +199,6 @@ pub fn run_words<S: AsStr, R: Read, W: Write, E: Write>(
         input.old input.new output.old output.new errors.old errors.new result }
     ensures few { result < 5 }
 {
-    let end = carry_out(rt, alloc, rt, read_words(alloc, words), input, output);
-    let _ = end.tell(errors);
+    let end = do_asked(rt, alloc, read_words(alloc, words), input, output, errors);
     end.status().code()
 }

@@ -1,0 +1,5 @@
+pub mod Ends
+pub mod Runs
+pub mod Served
+pub mod Start
+pub mod Sum
