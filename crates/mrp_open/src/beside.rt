@@ -1,13 +1,14 @@
 //! An order desk, from its start to its end, with a thread that makes the files of its runs.
 
-ghost use Rattle.std.specs.Prelude.{◌≡◌, ◌⊎◌, None, true, IfErr, IfOk, IfSome, IsTrue, OnErr, OnOk, length};
+ghost use Rattle.std.specs.Prelude.{◌≡◌, ◌⊎◌, None, true, IfErr, IfOk, IfSome, IsTrue, OnErr, OnOk, Some, codes, length, string_bytes};
 ghost use Rattle.std.specs.Int.{IsInRange};
 ghost use Rattle.std.specs.List.{All};
 ghost use Rattle.std.specs.Path.{path_join};
 ghost use Rattle.mrp_rows.specs.Told.{inner_of};
 ghost use Rattle.mrp_journal.specs.Held.{IsSettled};
+ghost use Rattle.mrp_folder.specs.Sealed.{has_seal, name_of, text_of};
 ghost use Rattle.mrp_engine.specs.declared.day.run.TheConstants.{MOST_WORKERS};
-ghost use Rattle.mrp_words.specs.Folder.{IsThere, nothing_known};
+ghost use Rattle.mrp_words.specs.Folder.{IsAt, IsThere, nothing_known};
 ghost use Rattle.mrp_calls.specs.Desk.{Desk};
 ghost use Rattle.mrp_commands.specs.declared.ending.Ending.TheVariants as ending;
 ghost use Rattle.mrp_book.specs.declared.reply.Reply.TheVariants as reply;
@@ -17,7 +18,7 @@ ghost use Rattle.mrp_open.specs.Ends.{DeskEnds, FailsToBegin, FailsToStart, IsSe
 ghost use Rattle.mrp_open.specs.Made.{MakesAll};
 ghost use Rattle.mrp_open.specs.Runs.{HandsAllMissing, HandsMissing, IsRunOf};
 ghost use Rattle.mrp_open.specs.Served.{Serves};
-ghost use Rattle.mrp_open.specs.Start.{AnswersJournal};
+ghost use Rattle.mrp_open.specs.Start.{AnswersJournal, sum_path};
 
 use crate::batches::{RunTaker, hand_run, serve};
 use crate::disk::{LockFault, has_file, hold_streams, lock_folder};
@@ -143,8 +144,9 @@ fn maker_of<'a>(
     }
 }
 
-// Begins the desk of a folder that was prepared.
-fn begin<'a, R: Files>(
+// Begins the desk of a folder that was prepared. The text of its sum stands there before the first record.
+fn begin<'a, F: FileStore, R: Files>(
+    files: &F,
     rt: &'a R,
     alloc: Global,
     folder: &'a str,
@@ -157,11 +159,14 @@ fn begin<'a, R: Files>(
     ensures maker { IfOk result (λ begun. begun.maker ≡ prepared.now.rows.value.tables) }
     ensures takes { OnOk result (IsTrue prepared.now.found.takes_records) }
     ensures cut { IfOk result (λ begun. begun.cut ≡ cut_of prepared.now.found (length begun.desk.entries)) }
-    ensures unbegun { IfErr result (FailsToBegin nothing_known folder.now prepared.now.found prepared.now.rows.value.tables) }
+    ensures sum { IfOk result (λ begun. text_of begun.journal ≡ string_bytes prepared.now.found.sum) }
+    ensures name { IfOk result (λ begun. name_of begun.journal ≡ codes "desk.tables") }
+    ensures sealed { IfOk result (λ begun. has_seal begun.journal ≡ true → IsAt (F.known files.now) (sum_path folder.now) (Some (string_bytes prepared.now.found.sum))) }
+    ensures unbegun { IfErr result (FailsToBegin (F.known files.now) folder.now prepared.now.found prepared.now.rows.value.tables) }
 {
     let desk = answer_journal(alloc, prepared)?;
     let records = desk.entries().len();
-    let sealed = is_sealed(rt, alloc, folder, records, &prepared.found.sum)?;
+    let sealed = is_sealed(files, alloc, folder, records, &prepared.found.sum)?;
     let maker = maker_of(alloc, prepared, workers)?;
     let journal = begin_journal(rt, alloc, folder, handle, &prepared.found)?;
     let sums = DiskFolder::new(rt, alloc, folder, SUM_PART);
@@ -340,7 +345,7 @@ where
     ensures same { OnErr result ((input.new ≡ input.old) × (output.new ≡ output.old) × (errors.new ≡ errors.old)) }
 {
     let prepared = prepare(rt, alloc, rt, folder)?;
-    let begun = begin(rt, alloc, folder, handle, &prepared, workers)?;
+    let begun = begin(rt, rt, alloc, folder, handle, &prepared, workers)?;
     serve_beside::<Brand, R, I, W, E>(rt, alloc, folder, begun, input, output, errors)
 }
 
