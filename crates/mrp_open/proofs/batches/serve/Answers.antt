@@ -44,9 +44,9 @@ loop-preserved g c =
       advances = advances-both [] c.loop.intake.begun c.serve_batch.new.intake.begun
     (g.R.Read.remaining (inner_of c.args.input.now)) (g.R.Read.remaining (inner_of c.loop.input)) (g.R.Read.remaining (inner_of c.serve_batch.new.input)) old now new
     (g.T.RunTaker.told c.args.taker.now) (g.T.RunTaker.told c.loop.taker) (g.T.RunTaker.told c.serve_batch.new.taker) c.loop.invariant.advances c.in-None-serve_batch.ensures.advances;
-      heard = c.in-None-serve_batch.ensures.heard ∙ c.loop.invariant.heard;
-      sound = c.in-None-serve_batch.ensures.sound ∙ c.loop.invariant.sound;
-      failures = c.in-None-serve_batch.ensures.failures ∙ c.loop.invariant.failures;
+      heard = c.in-None-serve_batch.ensures.heard refl ∙ c.loop.invariant.heard;
+      sound = c.in-None-serve_batch.ensures.sound refl ∙ c.loop.invariant.sound;
+      failures = c.in-None-serve_batch.ensures.failures refl ∙ c.loop.invariant.failures;
     }
 
 pub returns-in-Some-serve_batch-clause-served : goal.returns-in-Some-serve_batch-clause-served
