@@ -29,7 +29,7 @@ loop-init g c =
     let none : [] ≡ c.new-intake.result.begun = ap (λ (t : Taken). t.begun) (sym c.new-intake.ensures) in
     record {
       advances = subst (λ (b : List ℕ). Advances [] given b given old old (g.T.RunTaker.told c.args.taker.now) (g.T.RunTaker.told c.args.taker.now)) none
-      (advances-none given old (g.T.RunTaker.told c.args.taker.now) c.requires.settled);
+          (advances-none given old (g.T.RunTaker.told c.args.taker.now) c.requires.settled);
       heard = refl;
       sound = refl;
       failures = refl;
@@ -42,8 +42,8 @@ loop-preserved g c =
     let new : Stand = record { desk = c.serve_batch.new.desk; journal = g.S.Store.held c.serve_batch.new.journal; output = g.W.Write.contents (inner_of c.serve_batch.new.output) } in
     record {
       advances = advances-both [] c.loop.intake.begun c.serve_batch.new.intake.begun
-    (g.R.Read.remaining (inner_of c.args.input.now)) (g.R.Read.remaining (inner_of c.loop.input)) (g.R.Read.remaining (inner_of c.serve_batch.new.input)) old now new
-    (g.T.RunTaker.told c.args.taker.now) (g.T.RunTaker.told c.loop.taker) (g.T.RunTaker.told c.serve_batch.new.taker) c.loop.invariant.advances c.in-None-serve_batch.ensures.advances;
+          (g.R.Read.remaining (inner_of c.args.input.now)) (g.R.Read.remaining (inner_of c.loop.input)) (g.R.Read.remaining (inner_of c.serve_batch.new.input)) old now new
+          (g.T.RunTaker.told c.args.taker.now) (g.T.RunTaker.told c.loop.taker) (g.T.RunTaker.told c.serve_batch.new.taker) c.loop.invariant.advances c.in-None-serve_batch.ensures.advances;
       heard = c.in-None-serve_batch.ensures.heard refl ∙ c.loop.invariant.heard;
       sound = c.in-None-serve_batch.ensures.sound refl ∙ c.loop.invariant.sound;
       failures = c.in-None-serve_batch.ensures.failures refl ∙ c.loop.invariant.failures;

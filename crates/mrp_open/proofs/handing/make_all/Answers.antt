@@ -24,8 +24,8 @@ pub loop-preserved : goal.loop-preserved
 loop-preserved g c = record {
   same = c.make_one.ensures.same ∙ c.loop.invariant.same;
   made = makes-next g.N.Write.contents c.args.maker.now (g.G.RunSource.left c.args.from.now) (g.G.RunSource.left c.loop.from) (g.G.RunSource.left c.next_run.new.self) c.in-Some-next_run.run'
-  (g.D.Folder.named c.args.files.now) (g.D.Folder.named c.loop.files) (g.D.Folder.named c.make_one.new.files) c.args.notes.now c.loop.notes c.make_one.new.notes c.loop.invariant.made c.in-Some-next_run.ensures.next
-  (subst (λ (t : Tables). MakesRun g.N.Write.contents t c.in-Some-next_run.run' (g.D.Folder.named c.loop.files) (g.D.Folder.named c.make_one.new.files) c.loop.notes c.make_one.new.notes) c.loop.invariant.same c.make_one.ensures.made);
+      (g.D.Folder.named c.args.files.now) (g.D.Folder.named c.loop.files) (g.D.Folder.named c.make_one.new.files) c.args.notes.now c.loop.notes c.make_one.new.notes c.loop.invariant.made c.in-Some-next_run.ensures.next
+      (subst (λ (t : Tables). MakesRun g.N.Write.contents t c.in-Some-next_run.run' (g.D.Folder.named c.loop.files) (g.D.Folder.named c.make_one.new.files) c.loop.notes c.make_one.new.notes) c.loop.invariant.same c.make_one.ensures.made);
 }
 
 pub returns-in-None-next_run-clause-made : goal.returns-in-None-next_run-clause-made
