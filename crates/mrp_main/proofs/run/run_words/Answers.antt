@@ -14,7 +14,6 @@ returns-clause-done g c = record {
   asked = c.read_words.result;
   asks = c.read_words.ensures.asks;
   end = c.do_asked-end.result;
-  ends = c.do_asked-end.ensures.ends;
+  done = c.do_asked-end.ensures;
   code = c.code.ensures ∙ ap code_of c.status.ensures;
-  says = c.do_asked-end.ensures.told;
 }
