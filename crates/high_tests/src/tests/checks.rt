@@ -72,11 +72,14 @@ pub(super) fn make_folder(files: &impl Files) -> Result<(), Fail> {
 }
 
 // What the check of a day of these pieces leaves.
-fn checked<R: Alloc + Abort + Eprint + Files + Threads + Wait + Sync>(
+fn checked<R: AllocGlobal + Abort + Eprint + Files<File = File> + Threads + Wait + Sync>(
     rt: &R,
     alloc: Global,
     pieces: &[&str],
-) -> Left {
+) -> Left
+where
+    R::Dir: Send,
+{
     made(rt, make_folder(rt));
     let day = text_of(rt, alloc, pieces);
     let left = left_by(rt, alloc, CHECK, Streams::of(&day));
@@ -85,12 +88,15 @@ fn checked<R: Alloc + Abort + Eprint + Files + Threads + Wait + Sync>(
 }
 
 // What the check of the right day leaves with the first occurrence of this text replaced.
-fn checked_changed<R: Alloc + Abort + Eprint + Files + Threads + Wait + Sync>(
+fn checked_changed<R: AllocGlobal + Abort + Eprint + Files<File = File> + Threads + Wait + Sync>(
     rt: &R,
     alloc: Global,
     old: &str,
     new: &str,
-) -> Left {
+) -> Left
+where
+    R::Dir: Send,
+{
     let day = text_of(rt, alloc, DAY);
     let Some((front, back)) = day.split_once(old) else {
         rt.panic("the day has no such place")

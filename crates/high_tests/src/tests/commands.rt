@@ -54,12 +54,15 @@ pub struct Left {
 }
 
 // What these words leave.
-pub fn left_by<R: Alloc + Abort + Files + Threads + Wait + Sync>(
+pub fn left_by<R: AllocGlobal + Abort + Eprint + Files<File = File> + Threads + Wait + Sync>(
     rt: &R,
     alloc: Global,
     words: &[&str],
     streams: Streams<'_>,
-) -> Left {
+) -> Left
+where
+    R::Dir: Send,
+{
     let mut input = reader(streams.reads, streams.input);
     let mut output = writer(alloc, streams.writes);
     let mut errors = writer(alloc, streams.tells);
@@ -72,12 +75,15 @@ pub fn left_by<R: Alloc + Abort + Files + Threads + Wait + Sync>(
 }
 
 // What they leave on the output, of streams that move everything.
-pub fn output_of<R: Alloc + Abort + Files + Threads + Wait + Sync>(
+pub fn output_of<R: AllocGlobal + Abort + Eprint + Files<File = File> + Threads + Wait + Sync>(
     rt: &R,
     alloc: Global,
     words: &[&str],
     input: &str,
-) -> String {
+) -> String
+where
+    R::Dir: Send,
+{
     let left = left_by(rt, alloc, words, Streams::of(input));
     let Left {
         status: _,
@@ -126,12 +132,15 @@ fn bundles_are_planned_by_1_to_64_workers(rt: HostRuntime) {
 }
 
 // The status of a run whose error stream fails.
-fn unheard_status<R: Alloc + Abort + Files + Threads + Wait + Sync>(
+fn unheard_status<R: AllocGlobal + Abort + Eprint + Files<File = File> + Threads + Wait + Sync>(
     rt: &R,
     alloc: Global,
     words: &[&str],
     input: &str,
-) -> u8 {
+) -> u8
+where
+    R::Dir: Send,
+{
     let streams = Streams {
         tells: acts(&[], FAILS),
         ..Streams::of(input)
