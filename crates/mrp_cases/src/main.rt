@@ -251,9 +251,9 @@ where
 
 // Whether there are cases in the folder, each case and each page is as it must be, and each day, refusal
 // and page belongs to one.
-fn are_right<R: AllocGlobal + Eprint + Files<File = File> + Print + Threads + Wait + Sync + Clone + Drop>(
-    rt: &R,
-) -> io::Result<bool>
+fn are_right<
+    R: AllocGlobal + Eprint + Files<File = File> + Print + Threads + Wait + Sync + Clone + Drop,
+>(rt: &R) -> io::Result<bool>
 where
     R::Dir: Send,
 {

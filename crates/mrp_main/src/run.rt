@@ -108,10 +108,12 @@ where
         input.old input.new output.old output.new errors.old errors.new asked result }
 {
     match asked {
-        Ok(Request::Desk {
-            workers,
-            folder: Some(folder),
-        }) => open_desk(rt, alloc, &folder, workers, input, output, errors),
+        Ok(
+            Request::Desk {
+                workers,
+                folder: Some(folder),
+            },
+        ) => open_desk(rt, alloc, &folder, workers, input, output, errors),
         asked => {
             let end = carry_out(rt, alloc, rt, asked, input, output);
             let _ = end.tell(errors);

@@ -13,7 +13,10 @@ use std::sync::Wait;
 use std::thread::Threads;
 
 // The day of the bicycle shop.
-fn day<R: AllocGlobal + Abort + Eprint + Files<File = File> + Threads + Wait + Sync>(rt: &R, alloc: Global) -> String
+fn day<R: AllocGlobal + Abort + Eprint + Files<File = File> + Threads + Wait + Sync>(
+    rt: &R,
+    alloc: Global,
+) -> String
 where
     R::Dir: Send,
 {
