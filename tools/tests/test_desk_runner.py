@@ -107,7 +107,6 @@ class Orders(unittest.TestCase):
                 else:
                     self.assertRaises(Wrong, failed.look_at_calls, calls)
 
-
     def test_names_of_files(self):
         write, sync = failed.Told("write", 1, 9, "run.part"), failed.Told("sync", 2, 0, "run.part")
         name = failed.Told("rename", 3, 0, "run-7.day")
