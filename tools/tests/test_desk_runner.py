@@ -119,7 +119,7 @@ class Orders(unittest.TestCase):
         name, sync = failed.Told("rename", 2, 0, "desk.tables"), failed.Told("sync", 3, 0, "shop")
         failed.look_at_sum([header, name, sync, record], "shop", None)
         failed.look_at_sum([name, sync, record], "shop", b"")
-        for calls in ([header, record, name, sync], [header, name, record, sync]):
+        for calls in ([header, record, name, sync], [header, name, record, sync], [header, record]):
             self.assertRaises(Wrong, failed.look_at_sum, calls, "shop", None)
 
 
