@@ -18,6 +18,7 @@ mod calendars;
 mod cells;
 mod cursors;
 mod faults;
+mod folders;
 mod groups;
 mod intakes;
 mod joined;
