@@ -1,38 +1,57 @@
 -- How an order desk on a folder ends.
-use Rattle.std.proofs.Common.{◌≡◌, ◌⊎◌, ℕ, List, Option, Result, Ok, Err, inl, inr, subst, sym}
-use Rattle.std.specs.Prelude.{IfErr, IfOk, IsTrue}
+use Rattle.std.proofs.Common.{◌≡◌, ◌⊎◌, ℕ, List, Option, Result, Ok, Err, inl, inr, length, subst}
+use Rattle.std.specs.Prelude.{IfErr, IfOk, IsTrue, string_bytes}
 use Rattle.mrp_rows.specs.declared.told.Told.{Told}
 use Rattle.mrp_tables.specs.Tables.{Tables}
+use Rattle.mrp_script.specs.Script.{script_of}
 use Rattle.mrp_words.specs.Folder.{Known}
 use Rattle.mrp_calls.specs.Desk.{Desk}
 use Rattle.mrp_commands.specs.declared.ending.Ending.{Ending}
 use Rattle.mrp_commands.specs.declared.ending.Ending.TheVariants as ending
-use Rattle.mrp_open.specs.Ends.{FailsToStart, IsServed, IsUnbegun, ServesOn}
-use Rattle.mrp_open.specs.Start.{AnswersJournal, HasOtherSum, IsPrepared, TakesNoMore}
+use Rattle.mrp_open.specs.Ends.{FailsToBegin, FailsToStart, IsServed, ServesOn, TellsEnd, cut_of}
+use Rattle.mrp_open.specs.Start.{AnswersJournal, HasOtherSum, IsPrepared}
 use Rattle.mrp_open.specs.declared.finding.Found.{Found}
 
--- a desk that was opened has answered lines
-pub is-served : {R W : Type 0} (known : Known) (folder : List ℕ) (remaining : R → Option (List ℕ)) (contents : W → Option (List ℕ)) (input : Told R) (output written : Told W) (found : Found) (tables : Tables) (old : Desk) (end : Ending)
-    → IsPrepared known folder found tables → IsTrue found.takes_records → AnswersJournal tables found.room old → ((new : Desk) × ServesOn remaining contents input output written old new end) → IsServed known folder remaining contents input output written end
-is-served known folder remaining contents input output written found tables old end prepared takes answers (new, serves) =
-    record { found = found; tables = tables; old = old; new = new; prepared = prepared; takes = takes; answers = answers; serves = serves }
+module _ {R W E : Type 0} (known : Known) (folder : List ℕ) (remaining : R → Option (List ℕ)) (contents : W → Option (List ℕ)) (heard : E → Option (List ℕ)) (input : Told R) (output written : Told W) (errors told : Told E) where
+  -- a desk that was opened has answered lines, and told its cut and its end
+  pub is-served : (found : Found) (tables : Tables) (old : Desk) (cut : Option ℕ) (r : Result Ending Ending)
+      → IsPrepared known folder found tables → IsTrue found.takes_records → AnswersJournal tables found.room old → cut ≡ cut_of found (length old.entries)
+      → IfOk r (λ end. (new : Desk) × ServesOn remaining contents input output written old new end) → IfOk r (TellsEnd heard errors told cut)
+      → IfOk r (IsServed known folder remaining contents heard input output written errors told)
+  is-served found tables old cut (Err end) prepared takes answers is serves tells = tt
+  is-served found tables old cut (Ok end) prepared takes answers is (new, serves) tells = record {
+    found = found;
+    tables = tables;
+    old = old;
+    new = new;
+    prepared = prepared;
+    takes = takes;
+    answers = answers;
+    serves = serves;
+    tells = subst (λ (c : Option ℕ). TellsEnd heard errors told c end) is tells;
+  }
 
--- one that did not begin
-pub not-begun : (known : Known) (folder : List ℕ) (found : Found) (tables : Tables) (end : Ending) → IsPrepared known folder found tables → TakesNoMore tables found.takes_records end ⊎ IsUnbegun end → FailsToStart known folder end
-not-begun known folder found tables end prepared (inl closed) = inr (inl (found, tables, prepared, closed))
-not-begun known folder found tables end prepared (inr unbegun) = inr (inr unbegun)
+module _ (known : Known) (folder : List ℕ) where
+  -- one that did not begin
+  pub not-begun : (found : Found) (tables : Tables) (end : Ending) → IsPrepared known folder found tables → FailsToBegin known folder found tables end → FailsToStart known folder end
+  not-begun found tables end prepared fails = inr (inr (found, tables, prepared, fails))
 
--- one without memory
-pub no-memory : (known : Known) (folder : List ℕ) (end : Ending) → end ≡ ending.NoMemory → FailsToStart known folder end
-no-memory known folder end is = inr (inr (inr (inr (inr (inr is)))))
+  -- one without memory
+  pub no-memory : (r : Result Ending Ending) → IfErr r (λ end. end ≡ ending.NoMemory) → IfErr r (FailsToStart known folder)
+  no-memory (Ok end) is = tt
+  no-memory (Err end) is = inr (inl (inr (inr is)))
 
--- one whose tables have another sum
-pub other-sum : (known : Known) (folder : List ℕ) (records : ℕ) (sum : List ℕ) (end : Ending) → HasOtherSum known folder records sum end → IsUnbegun end
-other-sum known folder records sum end (inl (changed, some, other)) = inr (inl changed)
-other-sum known folder records sum end (inr (inl read)) = inr (inr (inl read))
-other-sum known folder records sum end (inr (inr memory)) = inr (inr (inr (inr memory)))
+  module _ (found : Found) (tables : Tables) where
+    -- one without memory for its maker of runs' files
+    pub no-maker : (end : Ending) → end ≡ ending.NoMemory → FailsToBegin known folder found tables end
+    no-maker end is = inl (inr is)
 
--- one whose journal was not begun
-pub unwritten : (end : Ending) → (end ≡ ending.NoMemory) ⊎ (end ≡ ending.Write) → IsUnbegun end
-unwritten end (inl memory) = inr (inr (inr (inr memory)))
-unwritten end (inr write) = inr (inr (inr (inl write)))
+    -- one whose tables have another sum
+    pub other-sum : (records : ℕ) (end : Ending) → IsTrue found.takes_records → records ≡ length (script_of tables) → HasOtherSum known folder records (string_bytes found.sum) end → FailsToBegin known folder found tables end
+    other-sum records end takes count other =
+        inr (takes, inl (subst (λ (n : ℕ). HasOtherSum known folder n (string_bytes found.sum) end) count other))
+
+    -- one whose journal was not begun
+    pub unwritten : (end : Ending) → IsTrue found.takes_records → (end ≡ ending.NoMemory) ⊎ (end ≡ ending.Write) → FailsToBegin known folder found tables end
+    unwritten end takes (inl memory) = inl (inr memory)
+    unwritten end takes (inr write) = inr (takes, inr write)

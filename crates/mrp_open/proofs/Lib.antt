@@ -1,5 +1,6 @@
 pub mod Ended
 pub mod Folders
+pub mod Making
 pub mod Runs
 pub mod Settled
 pub mod Starting

@@ -1,4 +1,5 @@
 pub mod Ends
+pub mod Made
 pub mod Runs
 pub mod Served
 pub mod Start

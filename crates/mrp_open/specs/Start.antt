@@ -11,7 +11,8 @@ use Rattle.mrp_journal.specs.Journal.{begun}
 use Rattle.mrp_journal.specs.Lines.{whole_lines}
 use Rattle.mrp_journal.specs.Table.{TakesRecords, header_for}
 use Rattle.mrp_tables.specs.Tables.{Tables}
-use Rattle.mrp_book.specs.History.{asked}
+use Rattle.mrp_master.specs.Supply.{supply_of}
+use Rattle.mrp_book.specs.History.{IsLegal, asked}
 use Rattle.mrp_script.specs.Opened.{IsAccepted, IsRefused}
 use Rattle.mrp_script.specs.Script.{script_of}
 use Rattle.mrp_words.specs.Folder.{AreParts, HasTooMuch, IsAt, Known}
@@ -83,10 +84,11 @@ IsRefusedStart known folder end = (found : Found) × (bundle : List ℕ) × HasF
 abbrev pub FailsToOpen : Known → List ℕ → Ending → Type 0
 FailsToOpen known folder end = IsRefusedStart known folder end ⊎ (((end ≡ ending.Read) × IsTooLong known folder) ⊎ (end ≡ ending.NoMemory))
 
--- the calls of the journal are answered
+-- the calls of the journal are answered, by a legal history
 pub record AnswersJournal (tables : Tables) (room : ℕ) (desk : Desk) : Type 0 where
   pub tables_are : desk.tables ≡ tables
   pub asked_are : asked desk.entries ≡ script_of tables
+  pub legal : IsLegal (supply_of tables) desk.entries
   pub room_is : desk.room ≡ room
 
 -- a journal takes no more records, and the end tells that at its last one; or there was no memory

@@ -1,30 +1,32 @@
 //! An order desk, from its start to its end, with a thread that makes the files of its runs.
 
-ghost use Rattle.std.specs.Prelude.{◌≡◌, ◌⊎◌, None, true, IfErr, IfOk, IfSome, IsTrue, OnErr, OnOk};
+ghost use Rattle.std.specs.Prelude.{◌≡◌, ◌⊎◌, None, true, IfErr, IfOk, IfSome, IsTrue, OnErr, OnOk, Some, codes, length, string_bytes};
 ghost use Rattle.std.specs.Int.{IsInRange};
 ghost use Rattle.std.specs.List.{All};
 ghost use Rattle.std.specs.Path.{path_join};
 ghost use Rattle.mrp_rows.specs.Told.{inner_of};
 ghost use Rattle.mrp_journal.specs.Held.{IsSettled};
+ghost use Rattle.mrp_folder.specs.Sealed.{has_seal, name_of, text_of};
 ghost use Rattle.mrp_engine.specs.declared.day.run.TheConstants.{MOST_WORKERS};
-ghost use Rattle.mrp_words.specs.Folder.{IsThere, nothing_known};
+ghost use Rattle.mrp_words.specs.Folder.{IsAt, IsThere, nothing_known};
 ghost use Rattle.mrp_calls.specs.Desk.{Desk};
 ghost use Rattle.mrp_commands.specs.declared.ending.Ending.TheVariants as ending;
 ghost use Rattle.mrp_book.specs.declared.reply.Reply.TheVariants as reply;
 ghost use Rattle.mrp_runs.specs.File.{IsRun, run_name};
 ghost use Rattle.mrp_runs.specs.declared.run.Run.{Run};
-ghost use Rattle.mrp_open.specs.Ends.{DeskEnds, FailsToStart, IsServed, IsUnbegun, ServesOn, TellsEnd};
+ghost use Rattle.mrp_open.specs.Ends.{DeskEnds, FailsToBegin, FailsToStart, IsServed, ServesOn, TellsEnd, cut_of};
+ghost use Rattle.mrp_open.specs.Made.{MakesAll};
 ghost use Rattle.mrp_open.specs.Runs.{HandsAllMissing, HandsMissing, IsRunOf};
 ghost use Rattle.mrp_open.specs.Served.{Serves};
-ghost use Rattle.mrp_open.specs.Start.{AnswersJournal, TakesNoMore};
+ghost use Rattle.mrp_open.specs.Start.{AnswersJournal, sum_path};
 
 use crate::batches::{RunTaker, hand_run, serve};
 use crate::disk::{LockFault, has_file, hold_streams, lock_folder};
-use crate::handing::{Given, RunKind, RunSender, make_all};
+use crate::handing::{Given, RunKind, RunReceiver, RunSender, RunSource, make_all};
 use crate::notes::Notes;
 use crate::opening::{begin_journal, cut_number, tell_cut};
 use crate::start::{Prepared, SUM_NAME, answer_journal, is_sealed, prepare};
-use crossbeam_channel::{Receiver, unbounded};
+use crossbeam_channel::unbounded;
 use mrp_book::{Call, Entry, Reply, Snapshot};
 use mrp_calls::OpenDesk;
 use mrp_commands::Ending;
@@ -142,8 +144,9 @@ fn maker_of<'a>(
     }
 }
 
-// Begins the desk of a folder that was prepared.
-fn begin<'a, R: Files>(
+// Begins the desk of a folder that was prepared. The text of its sum stands there before the first record.
+fn begin<'a, F: FileStore, R: Files>(
+    files: &F,
     rt: &'a R,
     alloc: Global,
     folder: &'a str,
@@ -155,11 +158,15 @@ fn begin<'a, R: Files>(
     ensures desk { IfOk result (λ begun. AnswersJournal prepared.now.rows.value.tables prepared.now.found.room begun.desk) }
     ensures maker { IfOk result (λ begun. begun.maker ≡ prepared.now.rows.value.tables) }
     ensures takes { OnOk result (IsTrue prepared.now.found.takes_records) }
-    ensures unbegun { IfErr result (λ end. TakesNoMore prepared.now.rows.value.tables prepared.now.found.takes_records end ⊎ IsUnbegun end) }
+    ensures cut { IfOk result (λ begun. begun.cut ≡ cut_of prepared.now.found (length begun.desk.entries)) }
+    ensures sum { IfOk result (λ begun. text_of begun.journal ≡ string_bytes prepared.now.found.sum) }
+    ensures name { IfOk result (λ begun. name_of begun.journal ≡ codes "desk.tables") }
+    ensures sealed { IfOk result (λ begun. has_seal begun.journal ≡ true → IsAt (F.known files.now) (sum_path folder.now) (Some (string_bytes prepared.now.found.sum))) }
+    ensures unbegun { IfErr result (FailsToBegin (F.known files.now) folder.now prepared.now.found prepared.now.rows.value.tables) }
 {
     let desk = answer_journal(alloc, prepared)?;
     let records = desk.entries().len();
-    let sealed = is_sealed(rt, alloc, folder, records, &prepared.found.sum)?;
+    let sealed = is_sealed(files, alloc, folder, records, &prepared.found.sum)?;
     let maker = maker_of(alloc, prepared, workers)?;
     let journal = begin_journal(rt, alloc, folder, handle, &prepared.found)?;
     let sums = DiskFolder::new(rt, alloc, folder, SUM_PART);
@@ -189,7 +196,7 @@ fn serve_told<S: Store, I: Read, W: Write, E: Write, T: RunTaker>(
         (record { desk = desk.old; journal = S.held journal.old; output = W.contents (inner_of output.old) })
         (record { desk = desk.new; journal = S.held journal.new; output = W.contents (inner_of output.new) })
         (T.told taker.old) (T.told taker.new) result }
-    ensures told { TellsEnd E.contents errors.old errors.new result }
+    ensures told { TellsEnd E.contents errors.old errors.new cut result }
 {
     tell_cut(cut, errors);
     let end = serve(alloc, desk, journal, input, output, taker);
@@ -201,9 +208,9 @@ fn serve_told<S: Store, I: Read, W: Write, E: Write, T: RunTaker>(
 // Answers calls, and makes the files of runs in a thread of their own, if one can be started, otherwise once the
 // input has ended. How it ends is told before the last runs are made.
 fn serve_and_make<
-    K: RunKind + Send + Sync,
+    G: RunSource + Send,
     S: Store,
-    R: Alloc + Threads + Wait + Sync,
+    R: Alloc<A = Global> + Threads + Wait + Sync,
     D: Folder + Send,
     N: Write + Send,
     I: Read,
@@ -215,7 +222,7 @@ fn serve_and_make<
     alloc: Global,
     cut: Option<u64>,
     maker: &mut RunMaker<'_>,
-    from: &Receiver<Given<K>>,
+    from: &mut G,
     files: &mut D,
     notes: &mut Told<N>,
     desk: &mut OpenDesk<'_>,
@@ -225,17 +232,21 @@ fn serve_and_make<
     errors: &mut Told<E>,
     taker: &mut T,
 ) -> Ending
-    requires given { (run : Run) → K.holds run → IsRun maker.old run }
+where
+    D::Part: Send,
+    requires given { (run : Run) → G.gives run → IsRun maker.old run }
     requires settled { IfSome (S.held journal.old) IsSettled }
     requires taken { (run : Run) → IsRun desk.old.tables run → T.takes run }
     ensures served { Serves (I.remaining (inner_of input.old))
         (record { desk = desk.old; journal = S.held journal.old; output = W.contents (inner_of output.old) })
         (record { desk = desk.new; journal = S.held journal.new; output = W.contents (inner_of output.new) })
         (T.told taker.old) (T.told taker.new) result }
-    ensures told { TellsEnd E.contents errors.old errors.new result }
+    ensures told { TellsEnd E.contents errors.old errors.new cut result }
+    ensures made { MakesAll N.contents maker.old (G.left from.old) (D.named files.old) (D.named files.new) notes.old notes.new }
 {
     let mut beside = ||
-        requires { (run : Run) → K.holds run → IsRun maker.now run }
+        requires { (run : Run) → G.gives run → IsRun maker.now run }
+        ensures { MakesAll N.contents maker.entry.now (G.left from.entry.now) (D.named files.entry.now) (D.named files.exit.now) notes.entry.now notes.exit.now }
     { make_all(rt, alloc, maker, from, files, notes) };
     let mut here = || -> Ending
         requires settled { IfSome (S.held journal.now) IsSettled }
@@ -244,7 +255,7 @@ fn serve_and_make<
             (record { desk = desk.entry.now; journal = S.held journal.entry.now; output = W.contents (inner_of output.entry.now) })
             (record { desk = desk.exit.now; journal = S.held journal.exit.now; output = W.contents (inner_of output.exit.now) })
             (T.told taker.entry.now) (T.told taker.exit.now) result }
-        ensures told { TellsEnd E.contents errors.entry.now errors.exit.now result }
+        ensures told { TellsEnd E.contents errors.entry.now errors.exit.now cut result }
     { serve_told(alloc, cut, desk, journal, input, output, errors, taker) };
     let ((), end) = thread::join_mut(rt, &mut beside, &mut here);
     end
@@ -254,8 +265,8 @@ fn serve_and_make<
 //
 // Errors: `NoMemory` if there is no memory for handing runs over; nothing was told then.
 fn serve_beside<
-    K: RunKind + Send + Sync,
-    R: Alloc + Eprint + Files + Threads + Wait + Sync,
+    K: RunKind + Send,
+    R: Alloc<A = Global> + Eprint + Files<File = File> + Threads + Wait + Sync,
     I: Read,
     W: Write,
     E: Write,
@@ -268,10 +279,12 @@ fn serve_beside<
     output: &mut Told<W>,
     errors: &mut Told<E>,
 ) -> Result<Ending, Ending>
+where
+    R::Dir: Send,
     requires given { (run : Run) → K.holds run → IsRun begun.maker run }
     requires taken { (run : Run) → IsRun begun.desk.tables run → K.holds run }
     ensures served { IfOk result (λ end. (new : Desk) × ServesOn I.remaining W.contents input.old output.old output.new begun.entry.desk new end) }
-    ensures told { IfOk result (TellsEnd E.contents errors.old errors.new) }
+    ensures told { IfOk result (TellsEnd E.contents errors.old errors.new begun.entry.cut) }
     ensures memory { IfErr result (λ end. end ≡ ending.NoMemory) }
     ensures same { OnErr result ((input.new ≡ input.old) × (output.new ≡ output.old) × (errors.new ≡ errors.old)) }
 {
@@ -285,6 +298,7 @@ fn serve_beside<
         return Err(Ending::NoMemory);
     };
     let mut taker = RunSender::new(rt, to);
+    let mut source = RunReceiver::new(rt, from);
     hand_over_missing(rt, alloc, folder, desk.entries(), &mut taker);
     let mut files = DiskFolder::new(rt, alloc, folder, RUN_PART);
     let mut notes = Told::new(Notes { rt });
@@ -293,7 +307,7 @@ fn serve_beside<
         alloc,
         cut,
         &mut maker,
-        &from,
+        &mut source,
         &mut files,
         &mut notes,
         &mut desk,
@@ -309,7 +323,7 @@ fn serve_beside<
 //
 // Errors: how it ends, where it answers nothing; it is not told then.
 fn open_locked<
-    R: Alloc + Eprint + Files<File = File> + Threads + Wait + Sync,
+    R: Alloc<A = Global> + Eprint + Files<File = File> + Threads + Wait + Sync,
     I: Read,
     W: Write,
     E: Write,
@@ -323,14 +337,15 @@ fn open_locked<
     output: &mut Told<W>,
     errors: &mut Told<E>,
 ) -> Result<Ending, Ending>
+where
+    R::Dir: Send,
     requires { IsInRange 1 MOST_WORKERS workers }
-    ensures served { IfOk result (IsServed nothing_known folder.now I.remaining W.contents input.old output.old output.new) }
-    ensures told { IfOk result (TellsEnd E.contents errors.old errors.new) }
+    ensures served { IfOk result (IsServed nothing_known folder.now I.remaining W.contents E.contents input.old output.old output.new errors.old errors.new) }
     ensures unbegun { IfErr result (FailsToStart nothing_known folder.now) }
     ensures same { OnErr result ((input.new ≡ input.old) × (output.new ≡ output.old) × (errors.new ≡ errors.old)) }
 {
     let prepared = prepare(rt, alloc, rt, folder)?;
-    let begun = begin(rt, alloc, folder, handle, &prepared, workers)?;
+    let begun = begin(rt, rt, alloc, folder, handle, &prepared, workers)?;
     serve_beside::<Brand, R, I, W, E>(rt, alloc, folder, begun, input, output, errors)
 }
 
@@ -338,7 +353,7 @@ fn open_locked<
 //
 // Errors: how it ends, where it answers nothing; it is not told then.
 fn open_named<
-    R: Alloc + Eprint + Files<File = File> + Threads + Wait + Sync,
+    R: Alloc<A = Global> + Eprint + Files<File = File> + Threads + Wait + Sync,
     I: Read,
     W: Write,
     E: Write,
@@ -351,9 +366,10 @@ fn open_named<
     output: &mut Told<W>,
     errors: &mut Told<E>,
 ) -> Result<Ending, Ending>
+where
+    R::Dir: Send,
     requires { IsInRange 1 MOST_WORKERS workers }
-    ensures served { IfOk result (IsServed nothing_known folder.now I.remaining W.contents input.old output.old output.new) }
-    ensures told { IfOk result (TellsEnd E.contents errors.old errors.new) }
+    ensures served { IfOk result (IsServed nothing_known folder.now I.remaining W.contents E.contents input.old output.old output.new errors.old errors.new) }
     ensures unbegun { IfErr result (FailsToStart nothing_known folder.now) }
     ensures same { OnErr result ((input.new ≡ input.old) × (output.new ≡ output.old) × (errors.new ≡ errors.old)) }
 {
@@ -366,7 +382,7 @@ fn open_named<
 
 // The same, with the numbers of closed streams taken, so that no file of the folder gets one.
 fn open_folder<
-    R: Alloc + Eprint + Files<File = File> + Threads + Wait + Sync,
+    R: Alloc<A = Global> + Eprint + Files<File = File> + Threads + Wait + Sync,
     I: Read,
     W: Write,
     E: Write,
@@ -379,9 +395,10 @@ fn open_folder<
     output: &mut Told<W>,
     errors: &mut Told<E>,
 ) -> Result<Ending, Ending>
+where
+    R::Dir: Send,
     requires { IsInRange 1 MOST_WORKERS workers }
-    ensures served { IfOk result (IsServed nothing_known folder.now I.remaining W.contents input.old output.old output.new) }
-    ensures told { IfOk result (TellsEnd E.contents errors.old errors.new) }
+    ensures served { IfOk result (IsServed nothing_known folder.now I.remaining W.contents E.contents input.old output.old output.new errors.old errors.new) }
     ensures unbegun { IfErr result (FailsToStart nothing_known folder.now) }
     ensures same { OnErr result ((input.new ≡ input.old) × (output.new ≡ output.old) × (errors.new ≡ errors.old)) }
 {
@@ -398,7 +415,7 @@ fn open_folder<
 /// Opens an order desk on a folder, answers the lines of an input until it ends, and returns how that ended, which
 /// was told on the error stream. It has 1 to 64 workers to plan runs, as the caller guarantees.
 pub fn open_desk<
-    R: Alloc + Eprint + Files<File = File> + Threads + Wait + Sync,
+    R: Alloc<A = Global> + Eprint + Files<File = File> + Threads + Wait + Sync,
     I: Read,
     W: Write,
     E: Write,
@@ -411,9 +428,10 @@ pub fn open_desk<
     output: &mut Told<W>,
     errors: &mut Told<E>,
 ) -> Ending
+where
+    R::Dir: Send,
     requires { IsInRange 1 MOST_WORKERS workers }
-    ensures ends { DeskEnds nothing_known folder.now I.remaining W.contents input.old input.new output.old output.new result }
-    ensures told { TellsEnd E.contents errors.old errors.new result }
+    ensures { DeskEnds nothing_known folder.now I.remaining W.contents E.contents input.old input.new output.old output.new errors.old errors.new result }
 {
     match open_folder(rt, alloc, folder, workers, input, output, errors) {
         Ok(end) => end,

@@ -1,8 +1,9 @@
 //! Runs that are handed to the thread that makes their files.
 
-ghost use Rattle.std.specs.Prelude.{◌≡◌};
+ghost use Rattle.std.specs.Prelude.{◌≡◌, List, Option, IfSome};
 ghost use Rattle.mrp_runs.specs.File.{IsRun};
 ghost use Rattle.mrp_runs.specs.declared.run.Run.{Run};
+ghost use Rattle.mrp_open.specs.Made.{GivesNext, MakesAll, MakesRun};
 
 use crate::batches::RunTaker;
 use crate::notes::Notes;
@@ -88,7 +89,50 @@ impl<'a, K: RunKind, R: Eprint + Wait> RunTaker for RunSender<'a, K, R> {
     }
 }
 
-// Makes the file of a run in a folder, and tells of it.
+/// Gives runs that were handed over, one after the other.
+pub trait RunSource {
+    /// The runs that it may give.
+    ghost gives: { Run → Type 0 };
+
+    /// The runs that are still to come, in order, as far as they are known.
+    ghost left: { Self → Option (List Run) };
+
+    /// The next run; `None` once no more come.
+    fn next_run(&mut self) -> Option<Run>
+        ensures given { IfSome result (λ run. ∥ gives run ∥₁) }
+        ensures next { GivesNext (left self.old) result (left self.new) };
+}
+
+/// Receives the runs that were sent to the thread that makes their files.
+#[derive(Drop)]
+pub struct RunReceiver<'a, K: RunKind, R> {
+    rt: &'a R,
+    from: Receiver<Given<K>>,
+}
+
+impl<'a, K: RunKind, R> RunReceiver<'a, K, R> {
+    /// A receiver of runs.
+    pub fn new(rt: &'a R, from: Receiver<Given<K>>) -> RunReceiver<'a, K, R> {
+        RunReceiver { rt, from }
+    }
+}
+
+impl<'a, K: RunKind, R: Wait> RunSource for RunReceiver<'a, K, R> {
+    ghost use Rattle.std.specs.Prelude.{None};
+
+    ghost gives = { K.holds };
+
+    ghost left = { λ _. None };
+
+    fn next_run(&mut self) -> Option<Run> {
+        match self.from.recv(self.rt) {
+            Ok(given) => Some(given.run),
+            Err(_) => None,
+        }
+    }
+}
+
+// Makes the file of a run in a folder, and tells of it where it has no report.
 fn make_one<R: Alloc + Threads + Wait + Sync, D: Folder, N: Write>(
     rt: &R,
     alloc: Global,
@@ -98,7 +142,8 @@ fn make_one<R: Alloc + Threads + Wait + Sync, D: Folder, N: Write>(
     notes: &mut Told<N>,
 )
     requires { ∥ IsRun maker.old run.now ∥₁ }
-    ensures { maker.new ≡ maker.old }
+    ensures same { maker.new ≡ maker.old }
+    ensures made { MakesRun N.contents maker.old run.now (D.named files.old) (D.named files.new) notes.old notes.new }
 {
     let made = maker.make(rt, alloc, run, files);
     if let Some(note) = Note::of(&made) {
@@ -106,19 +151,25 @@ fn make_one<R: Alloc + Threads + Wait + Sync, D: Folder, N: Write>(
     }
 }
 
-/// Makes the files of runs in a folder, one after the other as they come, until there is no sender any more.
-pub fn make_all<K: RunKind, R: Alloc + Threads + Wait + Sync, D: Folder, N: Write>(
+/// Makes the files of runs in a folder, one after the other as they come, until no more come, and tells of those that
+/// have no report.
+pub fn make_all<G: RunSource, R: Alloc + Threads + Wait + Sync, D: Folder, N: Write>(
     rt: &R,
     alloc: Global,
     maker: &mut RunMaker<'_>,
-    from: &Receiver<Given<K>>,
+    from: &mut G,
     files: &mut D,
     notes: &mut Told<N>,
 )
-    requires { (run : Run) → K.holds run → IsRun maker.old run }
-    ensures { maker.new ≡ maker.old }
+    requires { (run : Run) → G.gives run → IsRun maker.old run }
+    ensures same { maker.new ≡ maker.old }
+    ensures made { MakesAll N.contents maker.old (G.left from.old) (D.named files.old) (D.named files.new) notes.old notes.new }
 {
-    for given in from.iter(rt) {
-        make_one(rt, alloc, maker, &given.run, files, notes);
+    for _ in rt.forever() {
+        match from.next_run() {
+            Some(run) => make_one(rt, alloc, maker, &run, files, notes),
+            None => return,
+        }
     }
+    unreachable!()
 }

@@ -14,7 +14,7 @@ mod sum;
 pub use batches::{RunTaker, hand_over, serve};
 pub use beside::{hand_over_missing, open_desk};
 pub use finding::{Found, find};
-pub use handing::RunKind;
+pub use handing::{RunKind, RunSource, make_all};
 pub use opening::{cut_number, tell_cut};
 pub use start::{Prepared, answer_journal, is_sealed, prepare};
 pub use sum::sum_text;

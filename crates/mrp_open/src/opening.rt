@@ -1,7 +1,9 @@
 //! The opening of a desk: its journal is begun, and what was cut off is told.
 
-ghost use Rattle.std.specs.Prelude.{◌≡◌, ◌≤◌, ◌⊎◌, IfErr};
+ghost use Rattle.std.specs.Prelude.{◌≡◌, ◌≤◌, ◌⊎◌, IfErr, IfSome, OnOk, option_map};
 ghost use Rattle.mrp_tables.specs.declared.limits.TheConstants.{MOST_ROWS};
+ghost use Rattle.mrp_journal.specs.Held.{Becomes, settled};
+ghost use Rattle.mrp_journal.specs.Journal.{BeginsSafely, IsFound, begun};
 ghost use Rattle.mrp_commands.specs.declared.ending.Ending.TheVariants as ending;
 ghost use Rattle.mrp_open.specs.Ends.{IsTold};
 ghost use Rattle.mrp_open.specs.Start.{cut_number, cut_text};
@@ -10,11 +12,24 @@ use crate::disk::{open_journal, sync_folder};
 use crate::finding::Found;
 use itoa::Buffer;
 use mrp_commands::{Ending, write_line};
-use mrp_journal::{JournalFile, begin, whole_lines};
-use mrp_rows::Told;
+use mrp_journal::{JournalFile, Store, begin, whole_lines};
+use mrp_rows::{Told, WriteFault};
 use std::alloc::Global;
 use std::io::{ErrorKind, Write};
 use std::rt::Files;
+
+// Begins a journal by what was found, and makes it durable.
+fn begin_store<S: Store>(journal: &mut S, found: &Found) -> Result<(), Ending>
+    requires { IfSome (S.held journal.old) (IsFound found.now.script.items) }
+    ensures begun { OnOk result (S.held journal.new ≡ option_map (λ _. settled (begun found.now.script.items found.now.header.now)) (S.held journal.old)) }
+    ensures safe { Becomes (BeginsSafely found.now.script.items found.now.header.now) (S.held journal.old) (S.held journal.new) }
+    ensures write { IfErr result (λ end. end ≡ ending.Write) }
+{
+    match begin(journal, &found.script, found.header) {
+        Ok(()) => Ok(()),
+        Err(WriteFault) => Err(Ending::Write),
+    }
+}
 
 /// Begins the journal of a folder, by what was found there, and makes it and its name durable.
 ///
@@ -33,9 +48,7 @@ pub fn begin_journal<R: Files>(
         Err(error) if error.kind() == ErrorKind::OutOfMemory => return Err(Ending::NoMemory),
         Err(_) => return Err(Ending::Write),
     };
-    if begin(&mut journal, &found.script, found.header).is_err() {
-        return Err(Ending::Write);
-    }
+    begin_store(&mut journal, found)?;
     match sync_folder(handle) {
         Ok(()) => Ok(journal),
         Err(_) => Err(Ending::Write),

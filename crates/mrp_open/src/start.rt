@@ -116,10 +116,11 @@ pub fn answer_journal(alloc: Global, prepared: &Prepared) -> Result<OpenDesk<'_>
 {
     match OpenDesk::open(alloc, prepared.rows.shop(), prepared.found.room) {
         Ok(desk) => {
+            let records = desk.entries().len();
             if prepared.found.takes_records {
                 Ok(desk)
             } else {
-                Err(no_more(alloc, desk.entries().len() as u32))
+                Err(no_more(alloc, records as u32))
             }
         }
         Err(NoMemory) => Err(Ending::NoMemory),
