@@ -11,6 +11,7 @@ from desk_runner.disks import callers_lines
 from desk_runner.folders import HEADER, JOURNAL, put, tables_of, whole_lines
 from desk_runner.ledger import Ledger
 from desk_runner.lives import look_at_order
+from desk_runner.messages import messages
 
 TABLES = tables_of("bicycle")
 SHOP = Shop(TABLES)
@@ -34,15 +35,15 @@ class Ledgers(unittest.TestCase):
                 return str(wrong).split()[0]
 
     def test_a_life_that_is_right(self):
-        self.assertEqual(self.account(JOURNALS[2], ANSWERS), (2, ""))
-        self.assertEqual(self.account(JOURNALS[0], []), (0, ""))
-        self.assertEqual(self.account(b"", []), (0, ""))
-        self.assertEqual(self.account(b"desk,ca", []), (0, "cut: script 0\n"))
-        self.assertEqual(self.account(JOURNALS[1] + b"2,ru", ANSWERS[:2]), (1, "cut: script 2\n"))
+        self.assertEqual(self.account(JOURNALS[2], ANSWERS), (2, []))
+        self.assertEqual(self.account(JOURNALS[0], []), (0, []))
+        self.assertEqual(self.account(b"", []), (0, []))
+        self.assertEqual(self.account(b"desk,ca", []), (0, ["cut: script 0"]))
+        self.assertEqual(self.account(JOURNALS[1] + b"2,ru", ANSWERS[:2]), (1, ["cut: script 2"]))
 
     def test_what_was_not_answered_may_stand_or_not(self):
         for journal, new in ((JOURNALS[1], 1), (JOURNALS[2], 2)):
-            self.assertEqual(self.account(journal, ANSWERS[:1]), (new, ""))
+            self.assertEqual(self.account(journal, ANSWERS[:1]), (new, []))
 
     def test_an_answer_that_is_lost(self):
         self.assertEqual(self.account(JOURNALS[1], ANSWERS), "LOST")
@@ -60,7 +61,7 @@ class Ledgers(unittest.TestCase):
 
     def test_a_line_without_memory_or_room_becomes_no_record(self):
         lines = [BOOK, BOOK, RUN]
-        self.assertEqual(self.account(JOURNALS[2], [b"no memory\n", ANSWERS[0], ANSWERS[2]], lines=lines), (2, ""))
+        self.assertEqual(self.account(JOURNALS[2], [b"no memory\n", ANSWERS[0], ANSWERS[2]], lines=lines), (2, []))
         self.assertIsInstance(self.account(JOURNALS[0], [b"full\n"], lines=[BOOK]), str)
 
     def test_a_booking_that_exceeds_what_is_available(self):
@@ -124,6 +125,14 @@ class Orders(unittest.TestCase):
 
 
 class Texts(unittest.TestCase):
+    def test_messages(self):
+        self.assertEqual(messages(""), [])
+        self.assertEqual(messages("cut: script 12\nno memory\n"), ["cut: script 12", "no memory"])
+        self.assertEqual(messages("cut: script 3run 2: write failed\n\nno memory\n"), ["cut: script 3", "run 2: write failed", "no memory"])
+        for said in ("cut: script run 2: write failed\n3\n", "no memory", "write failed\n\n", "run 1: too late\n"):
+            self.assertFalse(messages(said) and all(it in ("cut: script 3", "run 2: write failed", "no memory") for it in messages(said)), said)
+        self.assertEqual(messages("cut: script 3", True), ["cut: script 3"])
+
     def test_transcripts_have_known_keys(self):
         cases = transcripts.transcripts()
         self.assertGreaterEqual(len(cases), 75)
