@@ -126,12 +126,19 @@ class Orders(unittest.TestCase):
 
 class Texts(unittest.TestCase):
     def test_messages(self):
-        self.assertEqual(messages(""), [])
-        self.assertEqual(messages("cut: script 12\nno memory\n"), ["cut: script 12", "no memory"])
-        self.assertEqual(messages("cut: script 3run 2: write failed\n\nno memory\n"), ["cut: script 3", "run 2: write failed", "no memory"])
-        for said in ("cut: script run 2: write failed\n3\n", "no memory", "write failed\n\n", "run 1: too late\n"):
-            self.assertFalse(messages(said) and all(it in ("cut: script 3", "run 2: write failed", "no memory") for it in messages(said)), said)
-        self.assertEqual(messages("cut: script 3", True), ["cut: script 3"])
+        cut, run, end = "cut: script 3", "run 2: write failed", "no memory"
+        for said, told in (
+            (f"{cut}\n{run}\n{end}\n", [cut, run, end]),
+            (f"cut: script {run}\n3\n{end}\n", [run, cut, end]),
+            (f"{cut}run 2\n: write failed{end}\n\n", [cut, run, end]),
+            (f"{cut}{run}\n\n", [cut, run]),
+            ("", []),
+        ):
+            self.assertEqual(messages(said), told)
+        self.assertEqual(messages(f"{run}\n" * 2_000), [run] * 2_000)
+        self.assertEqual(messages(cut, True), [cut])
+        for said in (end, cut, f"{end}\n\n", "run 1: too late\n", "x\n", f"run {run}\n"):
+            self.assertEqual(messages(said), [repr(said)])
 
     def test_transcripts_have_known_keys(self):
         cases = transcripts.transcripts()

@@ -297,7 +297,7 @@ where
     let Ok((to, from)) = unbounded::<Given<K>, Global>(alloc) else {
         return Err(Ending::NoMemory);
     };
-    // Each note is one write, so that none gets into a line that another thread writes.
+    // The text of a note is one write, so that nothing gets into it that another thread writes.
     let Ok(notes) = LineWriter::new(alloc, Notes { rt }) else {
         return Err(Ending::NoMemory);
     };
