@@ -159,7 +159,7 @@ fn main(rt: HostRuntime) -> ExitCode {
             &sights
         },
     };
-    // The text of a line is one write, so that nothing gets into it that another thread writes.
+    // Each line is one write, so that none gets into a line that another thread writes.
     let errors = QuietErrors {
         inner: rt.stderr(),
         sights: &sights,

@@ -39,7 +39,7 @@ use mrp_runs::{RunMaker, run_name};
 use mrp_words::FileStore;
 use std::alloc::Global;
 use std::fs::File;
-use std::io::{LineWriter, Read, Write};
+use std::io::{Read, Write};
 use std::marker::Brand;
 use std::rt::Files;
 use std::sync::Wait;
@@ -297,15 +297,11 @@ where
     let Ok((to, from)) = unbounded::<Given<K>, Global>(alloc) else {
         return Err(Ending::NoMemory);
     };
-    // The text of a note is one write, so that nothing gets into it that another thread writes.
-    let Ok(notes) = LineWriter::new(alloc, Notes { rt }) else {
-        return Err(Ending::NoMemory);
-    };
     let mut taker = RunSender::new(rt, to);
     let mut source = RunReceiver::new(rt, from);
     hand_over_missing(rt, alloc, folder, desk.entries(), &mut taker);
     let mut files = DiskFolder::new(rt, alloc, folder, RUN_PART);
-    let mut notes = Told::new(notes);
+    let mut notes = Told::new(Notes { rt });
     Ok(serve_and_make(
         rt,
         alloc,
