@@ -18,7 +18,6 @@ mod calendars;
 mod cells;
 mod cursors;
 mod faults;
-mod folders;
 mod groups;
 mod intakes;
 mod joined;
