@@ -9,6 +9,7 @@ from contextlib import contextmanager
 from .calls import Caller, Line, Shop, Wrong, cell
 from .folders import HEADER, JOURNAL, put, tables_of
 from .ledger import FULL, Ledger
+from .messages import messages
 from .processes import Desk
 from .steps import AGAIN, SHOP, live, look_again, look_at_said
 
@@ -53,7 +54,7 @@ def feed_until_full(program, ledger, limit=None):
             break
     status, out, said = desk.end()
     *answers, part = out.split(b"\n")
-    rest = [line for line in said.decode().splitlines() if not line.startswith("run ")]
+    rest = [line for line in messages(said.decode()) if not line.startswith("run ")]
     if (status, rest) != (4, ["write failed"]):
         raise Wrong(f"it ends with status {status} and {said!r}")
     ledger.account(lines, [answer + b"\n" for answer in answers], part)

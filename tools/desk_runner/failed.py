@@ -74,9 +74,9 @@ def look_at_calls(calls):
 
 def look_at_sum(calls, folder, before):
     """The sum of the tables has its name, and that is synced, before the first record is appended."""
-    place = next(at for at, it in enumerate(calls) if (it.what, it.name) == ("rename", "desk.tables"))
+    names = [at for at, it in enumerate(calls) if (it.what, it.name) == ("rename", "desk.tables")]
     appends = [at for at, it in enumerate(calls) if (it.what, it.name) == ("write", JOURNAL)][before is None :]
-    if not any(it.what == "sync" and it.name == folder for it in calls[place : appends[0]]):
+    if not names or not any(it.what == "sync" and it.name == folder for it in calls[names[0] : appends[0]]):
         raise Wrong("a record is appended before the sum of the tables is durable")
 
 

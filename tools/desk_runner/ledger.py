@@ -36,7 +36,7 @@ class Ledger:
 
     def cut_told(self):
         """What the next start has to say of what it cuts away."""
-        return f"cut: script {self.count + 1 if self.known else 0}\n" if self.is_torn else ""
+        return [f"cut: script {self.count + 1 if self.known else 0}"] if self.is_torn else []
 
     def account(self, lines, answers, part=b"", most=100_000):
         """Compares what a life left with its lines, and with what was seen of the answers, of the last one perhaps a part. How many

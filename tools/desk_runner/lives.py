@@ -13,6 +13,7 @@ from dataclasses import dataclass
 
 from .calls import DESKS, Caller, Wrong
 from .folders import HEADER
+from .messages import messages
 from .processes import limit_files
 
 FEEDERS = 8
@@ -193,7 +194,7 @@ class Life:
         """Looks at how it ended, at its trace, at the journal, at all answers and at the files of runs. How many records are new."""
         self.look_at_end()
         self.look_at_trace()
-        if self.answers and self.ledger.cut_told() != "".join(re.findall(r"cut: .*\n", self.said)):
+        if self.answers and self.ledger.cut_told() != [line for line in messages(self.said, True) if line.startswith("cut: ")]:
             raise Wrong(f"a cut record is told so: {self.said!r}")
         known = self.ledger.known
         new = self.ledger.account(self.sent, self.answers, self.part)
@@ -215,7 +216,7 @@ class Life:
             self.ledger.cut_at(self.dice.randint(least, len(text)))
 
     def look_at_end(self):
-        lines = [line for line in self.said.splitlines() if not line.startswith("cut: script ")]
+        lines = [line for line in messages(self.said, True) if not line.startswith("cut: script ")]
         rest = [line for line in lines if not re.fullmatch(r"run \d+: write failed", line)]
         right = {
             "kill": self.status == -signal.SIGKILL and not lines,

@@ -7,6 +7,7 @@ from dataclasses import dataclass, field
 from .calls import Line, Wrong
 from .folders import HEADER, JOURNAL, put, tables_of
 from .ledger import Ledger
+from .messages import messages
 from .processes import Desk, Stuck
 
 SHOP = "bicycle"
@@ -70,13 +71,13 @@ def begin(path, program, shop, before):
 
 def look_at_said(lived, ledger):
     """Looks at what a desk said at its end beside what is cut: its lines, and which runs are told."""
-    lines = lived.said.splitlines(keepends=True)
+    lines = messages(lived.said)
     cut = [line for line in lines if line.startswith("cut: ")]
-    if cut and "".join(cut) != ledger.cut_told():
+    if cut and cut != ledger.cut_told():
         raise Wrong(f"a cut record is told so: {lived.said!r}")
     if lived.answers and not cut and ledger.is_torn:
         raise Wrong("it does not say that it cut a record away")
-    rest = [line.rstrip("\n") for line in lines if line not in cut]
+    rest = [line for line in lines if line not in cut]
     told = {int(found[1]): found[2] for found in map(RUN_TOLD.fullmatch, rest) if found}
     return [line for line in rest if not RUN_TOLD.fullmatch(line)], told
 

@@ -11,6 +11,7 @@ from desk_runner.disks import callers_lines
 from desk_runner.folders import HEADER, JOURNAL, put, tables_of, whole_lines
 from desk_runner.ledger import Ledger
 from desk_runner.lives import look_at_order
+from desk_runner.messages import messages
 
 TABLES = tables_of("bicycle")
 SHOP = Shop(TABLES)
@@ -34,15 +35,15 @@ class Ledgers(unittest.TestCase):
                 return str(wrong).split()[0]
 
     def test_a_life_that_is_right(self):
-        self.assertEqual(self.account(JOURNALS[2], ANSWERS), (2, ""))
-        self.assertEqual(self.account(JOURNALS[0], []), (0, ""))
-        self.assertEqual(self.account(b"", []), (0, ""))
-        self.assertEqual(self.account(b"desk,ca", []), (0, "cut: script 0\n"))
-        self.assertEqual(self.account(JOURNALS[1] + b"2,ru", ANSWERS[:2]), (1, "cut: script 2\n"))
+        self.assertEqual(self.account(JOURNALS[2], ANSWERS), (2, []))
+        self.assertEqual(self.account(JOURNALS[0], []), (0, []))
+        self.assertEqual(self.account(b"", []), (0, []))
+        self.assertEqual(self.account(b"desk,ca", []), (0, ["cut: script 0"]))
+        self.assertEqual(self.account(JOURNALS[1] + b"2,ru", ANSWERS[:2]), (1, ["cut: script 2"]))
 
     def test_what_was_not_answered_may_stand_or_not(self):
         for journal, new in ((JOURNALS[1], 1), (JOURNALS[2], 2)):
-            self.assertEqual(self.account(journal, ANSWERS[:1]), (new, ""))
+            self.assertEqual(self.account(journal, ANSWERS[:1]), (new, []))
 
     def test_an_answer_that_is_lost(self):
         self.assertEqual(self.account(JOURNALS[1], ANSWERS), "LOST")
@@ -60,7 +61,7 @@ class Ledgers(unittest.TestCase):
 
     def test_a_line_without_memory_or_room_becomes_no_record(self):
         lines = [BOOK, BOOK, RUN]
-        self.assertEqual(self.account(JOURNALS[2], [b"no memory\n", ANSWERS[0], ANSWERS[2]], lines=lines), (2, ""))
+        self.assertEqual(self.account(JOURNALS[2], [b"no memory\n", ANSWERS[0], ANSWERS[2]], lines=lines), (2, []))
         self.assertIsInstance(self.account(JOURNALS[0], [b"full\n"], lines=[BOOK]), str)
 
     def test_a_booking_that_exceeds_what_is_available(self):
@@ -107,7 +108,6 @@ class Orders(unittest.TestCase):
                 else:
                     self.assertRaises(Wrong, failed.look_at_calls, calls)
 
-
     def test_names_of_files(self):
         write, sync = failed.Told("write", 1, 9, "run.part"), failed.Told("sync", 2, 0, "run.part")
         name = failed.Told("rename", 3, 0, "run-7.day")
@@ -120,11 +120,26 @@ class Orders(unittest.TestCase):
         name, sync = failed.Told("rename", 2, 0, "desk.tables"), failed.Told("sync", 3, 0, "shop")
         failed.look_at_sum([header, name, sync, record], "shop", None)
         failed.look_at_sum([name, sync, record], "shop", b"")
-        for calls in ([header, record, name, sync], [header, name, record, sync]):
+        for calls in ([header, record, name, sync], [header, name, record, sync], [header, record]):
             self.assertRaises(Wrong, failed.look_at_sum, calls, "shop", None)
 
 
 class Texts(unittest.TestCase):
+    def test_messages(self):
+        cut, run, end = "cut: script 3", "run 2: write failed", "no memory"
+        for said, told in (
+            (f"{cut}\n{run}\n{end}\n", [cut, run, end]),
+            (f"cut: script {run}\n3\n{end}\n", [run, cut, end]),
+            (f"{cut}run 2\n: write failed{end}\n\n", [cut, run, end]),
+            (f"{cut}{run}\n\n", [cut, run]),
+            ("", []),
+        ):
+            self.assertEqual(messages(said), told)
+        self.assertEqual(messages(f"{run}\n" * 2_000), [run] * 2_000)
+        self.assertEqual(messages(cut, True), [cut])
+        for said in (end, cut, f"{end}\n\n", "run 1: too late\n", "x\n", f"run {run}\n"):
+            self.assertEqual(messages(said), [repr(said)])
+
     def test_transcripts_have_known_keys(self):
         cases = transcripts.transcripts()
         self.assertGreaterEqual(len(cases), 75)
