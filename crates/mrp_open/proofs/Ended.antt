@@ -1,6 +1,6 @@
 -- How an order desk on a folder ends.
-use Rattle.std.proofs.Common.{◌≡◌, ◌⊎◌, ℕ, List, Option, Result, Ok, Err, inl, inr, length, subst}
-use Rattle.std.specs.Prelude.{IfErr, IfOk, IsTrue, string_bytes}
+use Rattle.std.proofs.Common.{◌≡◌, ◌⊎◌, ℕ, List, Option, Result, Ok, Err, inl, inr, length, subst, sym}
+use Rattle.std.specs.Prelude.{IfErr, IfOk, IsErrAnd, IsTrue, string_bytes}
 use Rattle.mrp_rows.specs.declared.told.Told.{Told}
 use Rattle.mrp_tables.specs.Tables.{Tables}
 use Rattle.mrp_script.specs.Script.{script_of}
@@ -32,6 +32,11 @@ module _ {R W E : Type 0} (known : Known) (folder : List ℕ) (remaining : R →
     fails = fails;
     tells = subst (λ (c : Option ℕ). TellsEnd heard errors told c end) is tells;
   }
+
+-- what holds of an end holds where it is passed on
+pub passed-on : {T : Type 0} (r : Result T Ending) (end : Ending) (P : Ending → Type 0) → IsErrAnd r (λ e. e ≡ end) → P end → IfErr r P
+passed-on (Ok x) end P is p = tt
+passed-on (Err e) end P is p = subst P (sym is) p
 
 module _ (known : Known) (folder : List ℕ) where
   -- one that did not begin

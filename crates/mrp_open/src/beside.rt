@@ -126,6 +126,7 @@ struct Begun<'a, R: Files> {
     maker: RunMaker<'a>,
     // The record that half a line would have been that was cut off.
     cut: Option<u64>,
+    folder: &'a str,
 }
 
 // The maker of a shop's runs.
@@ -176,6 +177,7 @@ fn begin<'a, F: FileStore, R: Files>(
         journal: SealedJournal::new(journal, sums, text, SUM_NAME, sealed),
         maker,
         cut: cut_number(&prepared.found, records),
+        folder,
     })
 }
 
@@ -277,7 +279,6 @@ fn serve_beside<
 >(
     rt: &R,
     alloc: Global,
-    folder: &str,
     begun: Begun<'_, R>,
     input: &mut Told<I>,
     output: &mut Told<W>,
@@ -298,6 +299,7 @@ where
         mut journal,
         mut maker,
         cut,
+        folder,
     } = begun;
     let Ok((to, from)) = unbounded::<Given<K>, Global>(alloc) else {
         return Err(Ending::NoMemory);
@@ -351,7 +353,7 @@ where
 {
     let prepared = prepare(rt, alloc, rt, folder)?;
     let begun = begin(rt, rt, alloc, folder, handle, &prepared, workers)?;
-    serve_beside::<Brand, R, I, W, E>(rt, alloc, folder, begun, input, output, errors)
+    serve_beside::<Brand, R, I, W, E>(rt, alloc, begun, input, output, errors)
 }
 
 // An order desk on a folder, which is locked first.

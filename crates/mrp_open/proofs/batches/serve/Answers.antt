@@ -29,7 +29,7 @@ loop-init g c =
     let none : [] ≡ c.new-intake.result.begun = ap (λ (t : Taken). t.begun) (sym c.new-intake.ensures) in
     record {
       advances = subst (λ (b : List ℕ). Advances [] given b given old old (g.T.RunTaker.told c.args.taker.now) (g.T.RunTaker.told c.args.taker.now)) none
-      (advances-none given old (g.T.RunTaker.told c.args.taker.now) c.requires.settled);
+          (advances-none given old (g.T.RunTaker.told c.args.taker.now) c.requires.settled);
       heard = refl;
       sound = refl;
       failures = refl;
@@ -42,28 +42,28 @@ loop-preserved g c =
     let new : Stand = record { desk = c.serve_batch.new.desk; journal = g.S.Store.held c.serve_batch.new.journal; output = g.W.Write.contents (inner_of c.serve_batch.new.output) } in
     record {
       advances = advances-both [] c.loop.intake.begun c.serve_batch.new.intake.begun
-    (g.R.Read.remaining (inner_of c.args.input.now)) (g.R.Read.remaining (inner_of c.loop.input)) (g.R.Read.remaining (inner_of c.serve_batch.new.input)) old now new
-    (g.T.RunTaker.told c.args.taker.now) (g.T.RunTaker.told c.loop.taker) (g.T.RunTaker.told c.serve_batch.new.taker) c.loop.invariant.advances c.in-None.ensures.advances;
-      heard = c.in-None.ensures.heard ∙ c.loop.invariant.heard;
-      sound = c.in-None.ensures.sound ∙ c.loop.invariant.sound;
-      failures = c.in-None.ensures.failures ∙ c.loop.invariant.failures;
+          (g.R.Read.remaining (inner_of c.args.input.now)) (g.R.Read.remaining (inner_of c.loop.input)) (g.R.Read.remaining (inner_of c.serve_batch.new.input)) old now new
+          (g.T.RunTaker.told c.args.taker.now) (g.T.RunTaker.told c.loop.taker) (g.T.RunTaker.told c.serve_batch.new.taker) c.loop.invariant.advances c.in-None-serve_batch.ensures.advances;
+      heard = c.in-None-serve_batch.ensures.heard refl ∙ c.loop.invariant.heard;
+      sound = c.in-None-serve_batch.ensures.sound refl ∙ c.loop.invariant.sound;
+      failures = c.in-None-serve_batch.ensures.failures refl ∙ c.loop.invariant.failures;
     }
 
-pub returns-in-Some-clause-served : goal.returns-in-Some-clause-served
-returns-in-Some-clause-served g c =
+pub returns-in-Some-serve_batch-clause-served : goal.returns-in-Some-serve_batch-clause-served
+returns-in-Some-serve_batch-clause-served g c =
     let old : Stand = record { desk = c.args.desk.now; journal = g.S.Store.held c.args.journal.now; output = g.W.Write.contents (inner_of c.args.output.now) } in
     let now : Stand = record { desk = c.loop.desk; journal = g.S.Store.held c.loop.journal; output = g.W.Write.contents (inner_of c.loop.output) } in
     let new : Stand = record { desk = c.serve_batch.new.desk; journal = g.S.Store.held c.serve_batch.new.journal; output = g.W.Write.contents (inner_of c.serve_batch.new.output) } in
     let given = g.R.Read.remaining (inner_of c.args.input.now) in
     let first = g.T.RunTaker.told c.args.taker.now in
-    subst (λ (told : Option (List ℕ)). Serves given old new first told c.in-Some.end) (sym c.in-Some.ensures.advances.1)
-    (serves given (g.R.Read.remaining (inner_of c.loop.input)) c.loop.intake.begun old now new first (g.T.RunTaker.told c.loop.taker) c.in-Some.end c.loop.invariant.advances c.in-Some.ensures.advances.0)
+    subst (λ (told : Option (List ℕ)). Serves given old new first told c.in-Some-serve_batch.end) (sym c.in-Some-serve_batch.ensures.advances.1)
+    (serves given (g.R.Read.remaining (inner_of c.loop.input)) c.loop.intake.begun old now new first (g.T.RunTaker.told c.loop.taker) c.in-Some-serve_batch.end c.loop.invariant.advances c.in-Some-serve_batch.ensures.advances.0)
 
-pub returns-in-Some-clause-read : goal.returns-in-Some-clause-read
-returns-in-Some-clause-read g c is =
-    read-since c.args.input.now c.loop.input c.serve_batch.new.input c.loop.invariant.heard (c.in-Some.ensures.read (ap (λ (e : Ending). Some e) is))
+pub returns-in-Some-serve_batch-clause-read : goal.returns-in-Some-serve_batch-clause-read
+returns-in-Some-serve_batch-clause-read g c is =
+    read-since c.args.input.now c.loop.input c.serve_batch.new.input c.loop.invariant.heard (c.in-Some-serve_batch.ensures.read (ap (λ (e : Ending). Some e) is))
 
-pub returns-in-Some-clause-write : goal.returns-in-Some-clause-write
-returns-in-Some-clause-write g c is =
+pub returns-in-Some-serve_batch-clause-write : goal.returns-in-Some-serve_batch-clause-write
+returns-in-Some-serve_batch-clause-write g c is =
     settle-since (g.S.Store.failures c.args.journal.now) (g.S.Store.failures c.loop.journal) (g.S.Store.failures c.serve_batch.new.journal) c.args.output.now c.loop.output c.serve_batch.new.output
-    c.loop.invariant.sound c.loop.invariant.failures (c.in-Some.ensures.write (ap (λ (e : Ending). Some e) is))
+    c.loop.invariant.sound c.loop.invariant.failures (c.in-Some-serve_batch.ensures.write (ap (λ (e : Ending). Some e) is))
