@@ -17,7 +17,7 @@ returns-in_err-begun-clause-unbegun g c =
     (not-begun nothing_known c.args.folder.now prepared.found prepared.rows.value.tables c.in_err-begun.field-0.0 c.in_ok-prepared.ensures.prepared c.in_err-begun.ensures.unbegun)
 
 pub serve_beside-requires-clause-taken : goal.serve_beside-requires-clause-taken
-serve_beside-requires-clause-taken g c lifetimes run is =
+serve_beside-requires-clause-taken g c lifetimes lives run is =
     subst (λ (t : Tables). IsRun t run) (c.in_ok-begun.ensures.desk.tables_are ∙ sym c.in_ok-begun.ensures.maker) is
 
 pub returns-clause-served : goal.returns-clause-served
