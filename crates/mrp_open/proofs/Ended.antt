@@ -1,6 +1,6 @@
 -- How an order desk on a folder ends.
-use Rattle.std.proofs.Common.{◌≡◌, ◌⊎◌, ℕ, List, Option, Result, Ok, Err, inl, inr, length, subst}
-use Rattle.std.specs.Prelude.{IfErr, IfOk, IsTrue, string_bytes}
+use Rattle.std.proofs.Common.{◌≡◌, ◌⊎◌, ℕ, List, Option, Result, Ok, Err, inl, inr, length, subst, sym}
+use Rattle.std.specs.Prelude.{IfErr, IfOk, IsErrAnd, IsTrue, string_bytes}
 use Rattle.mrp_rows.specs.declared.told.Told.{Told}
 use Rattle.mrp_tables.specs.Tables.{Tables}
 use Rattle.mrp_script.specs.Script.{script_of}
@@ -9,17 +9,18 @@ use Rattle.mrp_calls.specs.Desk.{Desk}
 use Rattle.mrp_commands.specs.declared.ending.Ending.{Ending}
 use Rattle.mrp_commands.specs.declared.ending.Ending.TheVariants as ending
 use Rattle.mrp_open.specs.Ends.{FailsToBegin, FailsToStart, IsServed, ServesOn, TellsEnd, cut_of}
+use Rattle.mrp_open.specs.Served.{FailsToRead}
 use Rattle.mrp_open.specs.Start.{AnswersJournal, HasOtherSum, IsPrepared}
 use Rattle.mrp_open.specs.declared.finding.Found.{Found}
 
-module _ {R W E : Type 0} (known : Known) (folder : List ℕ) (remaining : R → Option (List ℕ)) (contents : W → Option (List ℕ)) (heard : E → Option (List ℕ)) (input : Told R) (output written : Told W) (errors told : Told E) where
+module _ {R W E : Type 0} (known : Known) (folder : List ℕ) (remaining : R → Option (List ℕ)) (contents : W → Option (List ℕ)) (heard : E → Option (List ℕ)) (input read : Told R) (output written : Told W) (errors told : Told E) where
   -- a desk that was opened has answered lines, and told its cut and its end
   pub is-served : (found : Found) (tables : Tables) (old : Desk) (cut : Option ℕ) (r : Result Ending Ending)
       → IsPrepared known folder found tables → IsTrue found.takes_records → AnswersJournal tables found.room old → cut ≡ cut_of found (length old.entries)
       → IfOk r (λ end. (new : Desk) × ServesOn remaining contents input output written old new end) → IfOk r (TellsEnd heard errors told cut)
-      → IfOk r (IsServed known folder remaining contents heard input output written errors told)
-  is-served found tables old cut (Err end) prepared takes answers is serves tells = tt
-  is-served found tables old cut (Ok end) prepared takes answers is (new, serves) tells = record {
+      → IfOk r (λ end. end ≡ ending.Read → FailsToRead input read) → IfOk r (IsServed known folder remaining contents heard input read output written errors told)
+  is-served found tables old cut (Err end) prepared takes answers is serves tells fails = tt
+  is-served found tables old cut (Ok end) prepared takes answers is (new, serves) tells fails = record {
     found = found;
     tables = tables;
     old = old;
@@ -28,8 +29,14 @@ module _ {R W E : Type 0} (known : Known) (folder : List ℕ) (remaining : R →
     takes = takes;
     answers = answers;
     serves = serves;
+    fails = fails;
     tells = subst (λ (c : Option ℕ). TellsEnd heard errors told c end) is tells;
   }
+
+-- what holds of an end holds where it is passed on
+pub passed-on : {T : Type 0} (r : Result T Ending) (end : Ending) (P : Ending → Type 0) → IsErrAnd r (λ e. e ≡ end) → P end → IfErr r P
+passed-on (Ok x) end P is p = tt
+passed-on (Err e) end P is p = subst P (sym is) p
 
 module _ (known : Known) (folder : List ℕ) where
   -- one that did not begin

@@ -1,4 +1,5 @@
 pub mod Ended
+pub mod Failing
 pub mod Folders
 pub mod Making
 pub mod Runs

@@ -50,8 +50,7 @@ module _ {N : Type 0} (contents : N → Option (List ℕ)) where
         → MakesFirst contents tables runs next_left named last notes after
     makes-next None left next_left run named next last notes told after first gives makes = tt
     makes-next (Some runs) left next_left run named next last notes told after (made, rest, is, left_is, each) gives makes =
-        let (more, cons, more_is) = subst (λ (o : Option (List Run)). GivesNext o (Some run) next_left) left_is gives in
-        (
+        let (more, cons, more_is) = subst (λ (o : Option (List Run)). GivesNext o (Some run) next_left) left_is gives in (
           made ++ run ∷ [],
           more,
           is ∙ ap (λ (runs : List Run). made ++ runs) cons ∙ sym (append_assoc made (run ∷ []) more),

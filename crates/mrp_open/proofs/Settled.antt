@@ -264,10 +264,6 @@ stops-read begun given old fault end is = record {
   ends = (serving-read fault end is).0;
 }
 
--- too many rounds
-pub stops-tired : (begun : List ℕ) (given : Option (List ℕ)) (old : Stand) → StopsAt begun given old old ending.Read
-stops-tired begun given old = stops-read begun given old read.Read ending.Read refl
-
 serving-batch : (end : Ending) → IsBatchEnd end → IsServingEnd end × (end ≡ ending.Done → ⊥)
 serving-batch end (inl is) = (inr (inl is), λ (done : end ≡ ending.Done). cc)
 serving-batch end (inr is) = (inr (inr (inr is)), λ (done : end ≡ ending.Done). cc)

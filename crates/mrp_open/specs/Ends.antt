@@ -12,7 +12,7 @@ use Rattle.mrp_calls.specs.Desk.{Desk}
 use Rattle.mrp_commands.specs.Telling.{words_of}
 use Rattle.mrp_commands.specs.declared.ending.Ending.{Ending}
 use Rattle.mrp_commands.specs.declared.ending.Ending.TheVariants as ending
-use Rattle.mrp_open.specs.Served.{Serves, Stand}
+use Rattle.mrp_open.specs.Served.{FailsToRead, Serves, Stand}
 use Rattle.mrp_open.specs.Start.{AnswersJournal, FailsToOpen, HasOtherSum, IsPrepared, TakesNoMore, cut_number, cut_text}
 use Rattle.mrp_open.specs.declared.finding.Found.{Found}
 
@@ -43,7 +43,7 @@ TellsEnd contents old new cut end = TellsBoth contents old new (cut_text cut) (w
 
 -- the shop of a folder was opened, the calls of its journal were answered, and then lines of the input
 pub record IsServed {R W E : Type 0} (known : Known) (folder : List ℕ) (remaining : R → Option (List ℕ)) (contents : W → Option (List ℕ)) (heard : E → Option (List ℕ))
-    (input : Told R) (output written : Told W) (errors told : Told E) (end : Ending) : Type 0 where
+    (input read : Told R) (output written : Told W) (errors told : Told E) (end : Ending) : Type 0 where
   pub found : Found
   pub tables : Tables
   pub old : Desk
@@ -52,6 +52,7 @@ pub record IsServed {R W E : Type 0} (known : Known) (folder : List ℕ) (remain
   pub takes : IsTrue found.takes_records
   pub answers : AnswersJournal tables found.room old
   pub serves : ServesOn remaining contents input output written old new end
+  pub fails : end ≡ ending.Read → FailsToRead input read
   pub tells : TellsEnd heard errors told (cut_of found (length old.entries)) end
 
 -- a folder is in use, or it or a stream can't be opened
@@ -76,5 +77,5 @@ FailsToStart known folder end = IsBarred end ⊎ (FailsToOpen known folder end �
 -- how an order desk ends, and what it tells: with lines that were answered, or before any was read or answered
 abbrev pub DeskEnds : Known → List ℕ → {R W E : Type 0} → (R → Option (List ℕ)) → (W → Option (List ℕ)) → (E → Option (List ℕ)) → Told R → Told R → Told W → Told W → Told E → Told E → Ending → Type 0
 DeskEnds known folder remaining contents heard input read output written errors told end =
-    IsServed known folder remaining contents heard input output written errors told end
+    IsServed known folder remaining contents heard input read output written errors told end
     ⊎ ((read ≡ input) × (written ≡ output) × FailsToStart known folder end × IsTold heard errors told (words_of end))

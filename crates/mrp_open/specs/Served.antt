@@ -1,7 +1,10 @@
 -- What an order desk has done with the lines of its input (profile).
-use Rattle.std.specs.Prelude.{ℕ, ◌≡◌, ◌⊎◌, List, [], ◌++◌, Option, Some, None, IfSome, ⊤, option_map}
+use Rattle.std.specs.Prelude.{ℕ, ◌≡◌, ◌≤◌, ◌⊎◌, List, [], ◌++◌, Option, Some, None, IfSome, ⊤, option_map}
 use Rattle.std.specs.Io.KnownBytes.{Appends, Keeps}
 use Rattle.mrp_rows.specs.Streams.{WritesFront}
+use Rattle.mrp_rows.specs.Told.{HasRisenBy, calls_of, failures_of, greatest_count, interrupted_of}
+use Rattle.mrp_rows.specs.declared.streams.TheConstants.{READ_CALLS, WRITE_TRIES}
+use Rattle.mrp_rows.specs.declared.told.Told.{Told}
 use Rattle.mrp_book.specs.Standing.{History}
 use Rattle.mrp_intake.specs.Lines.{told_lines}
 use Rattle.mrp_journal.specs.Held.{Becomes, Held}
@@ -76,6 +79,14 @@ pub record Advances (begun : List ℕ) (given : Option (List ℕ)) (next : List 
 -- why an order desk that was open ends
 abbrev pub IsServingEnd : Ending → Type 0
 IsServingEnd end = (end ≡ ending.Done) ⊎ ((end ≡ ending.NoMemory) ⊎ ((end ≡ ending.Read) ⊎ (end ≡ ending.Write)))
+
+-- an input has failed, or was interrupted as often as can be counted, or was read from as often as may be without a line
+abbrev pub FailsToRead : {R : Type 0} → Told R → Told R → Type 0
+FailsToRead input read = HasRisenBy 1 (failures_of input) (failures_of read) ⊎ ((greatest_count ≤ interrupted_of read) ⊎ (READ_CALLS ≤ calls_of read))
+
+-- a journal has failed so much more often, or an output has failed, or was interrupted too often
+abbrev pub FailsToSettle : {W : Type 0} → ℕ → ℕ → Told W → Told W → Type 0
+FailsToSettle sound failed output written = HasRisenBy 1 sound failed ⊎ (HasRisenBy 1 (failures_of output) (failures_of written) ⊎ (WRITE_TRIES ≤ interrupted_of written))
 
 -- an order desk has stopped in a batch of lines; where it is done, no line is left
 pub record StopsAt (begun : List ℕ) (given : Option (List ℕ)) (old new : Stand) (end : Ending) : Type 0 where

@@ -1,15 +1,15 @@
 //! The batches of an order desk.
 
-ghost use Rattle.std.specs.Prelude.{◌≡◌, ◌⊎◌, ℕ, List, Option, IfErr, IfSome, MatchOption, OnErr, OnOk};
+ghost use Rattle.std.specs.Prelude.{◌≡◌, ◌⊎◌, ℕ, List, Err, None, Option, Some, IfErr, IfSome, MatchOption, OnErr, OnOk};
 ghost use Rattle.std.specs.List.{All};
-ghost use Rattle.mrp_rows.specs.Told.{inner_of};
+ghost use Rattle.mrp_rows.specs.Told.{failures_of, inner_of};
 ghost use Rattle.mrp_intake.specs.Lines.{told_lines};
 ghost use Rattle.mrp_journal.specs.Held.{IsSettled};
 ghost use Rattle.mrp_commands.specs.declared.ending.Ending.TheVariants as ending;
 ghost use Rattle.mrp_runs.specs.File.{IsRun};
 ghost use Rattle.mrp_runs.specs.declared.run.Run.{Run};
 ghost use Rattle.mrp_open.specs.Runs.{HandsOver, HandsOverAll, IsRunOf, with_front};
-ghost use Rattle.mrp_open.specs.Served.{Advances, Fails, Serves, Settles, SettlesRuns, Stops, StopsAt};
+ghost use Rattle.mrp_open.specs.Served.{Advances, Fails, FailsToRead, FailsToSettle, Serves, Settles, SettlesRuns, Stops, StopsAt};
 
 use mrp_book::{Call, Entry, Reply, Snapshot};
 use mrp_calls::OpenDesk;
@@ -21,6 +21,7 @@ use mrp_rows::{Told, WriteFault};
 use mrp_runs::Run;
 use std::alloc::Global;
 use std::io::{Read, Write};
+use std::sync::Wait;
 
 /// Takes runs that were answered.
 pub trait RunTaker {
@@ -99,6 +100,9 @@ fn answer_batch<S: Store, W: Write>(
         (record { desk = desk.old; journal = S.held journal.old; output = W.contents (inner_of output.old) })
         (record { desk = desk.new; journal = S.held journal.new; output = W.contents (inner_of output.new) })) }
     ensures end { IfErr result (λ end. (end ≡ ending.NoMemory) ⊎ (end ≡ ending.Write)) }
+    ensures write { result ≡ Err ending.Write → FailsToSettle (S.failures journal.old) (S.failures journal.new) output.old output.new }
+    ensures sound { OnOk result (S.failures journal.new ≡ S.failures journal.old) }
+    ensures failures { OnOk result (failures_of output.new ≡ failures_of output.old) }
 {
     match desk.answer(batch, &mut texts.answers, &mut texts.records) {
         Ok(()) => match settle(journal, &texts.records, &texts.answers, output) {
@@ -120,13 +124,17 @@ fn settle_batch<S: Store, W: Write, T: RunTaker>(
 ) -> Option<Ending>
     requires settled { IfSome (S.held journal.old) IsSettled }
     requires taken { (run : Run) → IsRun desk.old.tables run → T.takes run }
-    ensures { MatchOption result
+    ensures settles { MatchOption result
         (SettlesRuns (told_lines batch.now)
         (record { desk = desk.old; journal = S.held journal.old; output = W.contents (inner_of output.old) })
         (record { desk = desk.new; journal = S.held journal.new; output = W.contents (inner_of output.new) }) (T.told taker.old) (T.told taker.new))
         (λ end. Fails (told_lines batch.now)
         (record { desk = desk.old; journal = S.held journal.old; output = W.contents (inner_of output.old) })
         (record { desk = desk.new; journal = S.held journal.new; output = W.contents (inner_of output.new) }) end × (T.told taker.new ≡ T.told taker.old)) }
+    ensures write { result ≡ Some ending.Write → FailsToSettle (S.failures journal.old) (S.failures journal.new) output.old output.new }
+    ensures read { result ≡ Some ending.Read → ⊥ }
+    ensures sound { result ≡ None → S.failures journal.new ≡ S.failures journal.old }
+    ensures failures { result ≡ None → failures_of output.new ≡ failures_of output.old }
 {
     let before = desk.entries().len();
     match answer_batch(desk, batch, texts, journal, output) {
@@ -150,13 +158,18 @@ fn serve_batch<S: Store, R: Read, W: Write, T: RunTaker>(
 ) -> Option<Ending>
     requires settled { IfSome (S.held journal.old) IsSettled }
     requires taken { (run : Run) → IsRun desk.old.tables run → T.takes run }
-    ensures { MatchOption result
+    ensures advances { MatchOption result
         (Advances intake.old.begun (R.remaining (inner_of input.old)) intake.new.begun (R.remaining (inner_of input.new))
         (record { desk = desk.old; journal = S.held journal.old; output = W.contents (inner_of output.old) })
         (record { desk = desk.new; journal = S.held journal.new; output = W.contents (inner_of output.new) }) (T.told taker.old) (T.told taker.new))
         (λ end. StopsAt intake.old.begun (R.remaining (inner_of input.old))
         (record { desk = desk.old; journal = S.held journal.old; output = W.contents (inner_of output.old) })
         (record { desk = desk.new; journal = S.held journal.new; output = W.contents (inner_of output.new) }) end × (T.told taker.new ≡ T.told taker.old)) }
+    ensures read { result ≡ Some ending.Read → FailsToRead input.old input.new }
+    ensures write { result ≡ Some ending.Write → FailsToSettle (S.failures journal.old) (S.failures journal.new) output.old output.new }
+    ensures heard { result ≡ None → failures_of input.new ≡ failures_of input.old }
+    ensures sound { result ≡ None → S.failures journal.new ≡ S.failures journal.old }
+    ensures failures { result ≡ None → failures_of output.new ≡ failures_of output.old }
 {
     match intake.next_batch(input) {
         Ok(true) => settle_batch(desk, intake.batch(), texts, journal, output, taker),
@@ -168,6 +181,7 @@ fn serve_batch<S: Store, R: Read, W: Write, T: RunTaker>(
 /// Answers the lines of an input, batch by batch, until it ends or something fails, and hands over the runs of each
 /// batch once its answers are written. The journal is durable.
 pub fn serve<S: Store, R: Read, W: Write, T: RunTaker>(
+    rt: &impl Wait,
     alloc: Global,
     desk: &mut OpenDesk<'_>,
     journal: &mut S,
@@ -177,21 +191,23 @@ pub fn serve<S: Store, R: Read, W: Write, T: RunTaker>(
 ) -> Ending
     requires settled { IfSome (S.held journal.old) IsSettled }
     requires taken { (run : Run) → IsRun desk.old.tables run → T.takes run }
-    ensures { Serves (R.remaining (inner_of input.old))
+    ensures served { Serves (R.remaining (inner_of input.old))
         (record { desk = desk.old; journal = S.held journal.old; output = W.contents (inner_of output.old) })
         (record { desk = desk.new; journal = S.held journal.new; output = W.contents (inner_of output.new) })
         (T.told taker.old) (T.told taker.new) result }
+    ensures read { result ≡ ending.Read → FailsToRead input.old input.new }
+    ensures write { result ≡ ending.Write → FailsToSettle (S.failures journal.old) (S.failures journal.new) output.old output.new }
 {
     let mut intake = Intake::new(alloc);
     let mut texts = Texts {
         answers: Vec::new(alloc),
         records: Vec::new(alloc),
     };
-    for _ in 0..u64::MAX {
+    for _ in rt.forever() {
         match serve_batch(desk, &mut intake, &mut texts, journal, input, output, taker) {
             Some(end) => return end,
             None => {}
         }
     }
-    Ending::Read
+    unreachable!()
 }

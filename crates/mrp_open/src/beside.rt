@@ -17,7 +17,7 @@ ghost use Rattle.mrp_runs.specs.declared.run.Run.{Run};
 ghost use Rattle.mrp_open.specs.Ends.{DeskEnds, FailsToBegin, FailsToStart, IsServed, ServesOn, TellsEnd, cut_of};
 ghost use Rattle.mrp_open.specs.Made.{MakesAll};
 ghost use Rattle.mrp_open.specs.Runs.{HandsAllMissing, HandsMissing, IsRunOf};
-ghost use Rattle.mrp_open.specs.Served.{Serves};
+ghost use Rattle.mrp_open.specs.Served.{FailsToRead, Serves};
 ghost use Rattle.mrp_open.specs.Start.{AnswersJournal, sum_path};
 
 use crate::batches::{RunTaker, hand_run, serve};
@@ -126,6 +126,7 @@ struct Begun<'a, R: Files> {
     maker: RunMaker<'a>,
     // The record that half a line would have been that was cut off.
     cut: Option<u64>,
+    folder: &'a str,
 }
 
 // The maker of a shop's runs.
@@ -176,11 +177,13 @@ fn begin<'a, F: FileStore, R: Files>(
         journal: SealedJournal::new(journal, sums, text, SUM_NAME, sealed),
         maker,
         cut: cut_number(&prepared.found, records),
+        folder,
     })
 }
 
 // Answers calls until the input ends or something fails. What was cut off is told first, and how it ends last.
 fn serve_told<S: Store, I: Read, W: Write, E: Write, T: RunTaker>(
+    rt: &impl Wait,
     alloc: Global,
     cut: Option<u64>,
     desk: &mut OpenDesk<'_>,
@@ -197,9 +200,10 @@ fn serve_told<S: Store, I: Read, W: Write, E: Write, T: RunTaker>(
         (record { desk = desk.new; journal = S.held journal.new; output = W.contents (inner_of output.new) })
         (T.told taker.old) (T.told taker.new) result }
     ensures told { TellsEnd E.contents errors.old errors.new cut result }
+    ensures read { result ≡ ending.Read → FailsToRead input.old input.new }
 {
     tell_cut(cut, errors);
-    let end = serve(alloc, desk, journal, input, output, taker);
+    let end = serve(rt, alloc, desk, journal, input, output, taker);
     taker.close();
     let _ = end.tell(errors);
     end
@@ -242,6 +246,7 @@ where
         (record { desk = desk.new; journal = S.held journal.new; output = W.contents (inner_of output.new) })
         (T.told taker.old) (T.told taker.new) result }
     ensures told { TellsEnd E.contents errors.old errors.new cut result }
+    ensures read { result ≡ ending.Read → FailsToRead input.old input.new }
     ensures made { MakesAll N.contents maker.old (G.left from.old) (D.named files.old) (D.named files.new) notes.old notes.new }
 {
     let mut beside = ||
@@ -256,7 +261,8 @@ where
             (record { desk = desk.exit.now; journal = S.held journal.exit.now; output = W.contents (inner_of output.exit.now) })
             (T.told taker.entry.now) (T.told taker.exit.now) result }
         ensures told { TellsEnd E.contents errors.entry.now errors.exit.now cut result }
-    { serve_told(alloc, cut, desk, journal, input, output, errors, taker) };
+        ensures read { result ≡ ending.Read → FailsToRead input.entry.now input.exit.now }
+    { serve_told(rt, alloc, cut, desk, journal, input, output, errors, taker) };
     let ((), end) = thread::join_mut(rt, &mut beside, &mut here);
     end
 }
@@ -273,7 +279,6 @@ fn serve_beside<
 >(
     rt: &R,
     alloc: Global,
-    folder: &str,
     begun: Begun<'_, R>,
     input: &mut Told<I>,
     output: &mut Told<W>,
@@ -285,6 +290,7 @@ where
     requires taken { (run : Run) → IsRun begun.desk.tables run → K.holds run }
     ensures served { IfOk result (λ end. (new : Desk) × ServesOn I.remaining W.contents input.old output.old output.new begun.entry.desk new end) }
     ensures told { IfOk result (TellsEnd E.contents errors.old errors.new begun.entry.cut) }
+    ensures read { IfOk result (λ end. end ≡ ending.Read → FailsToRead input.old input.new) }
     ensures memory { IfErr result (λ end. end ≡ ending.NoMemory) }
     ensures same { OnErr result ((input.new ≡ input.old) × (output.new ≡ output.old) × (errors.new ≡ errors.old)) }
 {
@@ -293,6 +299,7 @@ where
         mut journal,
         mut maker,
         cut,
+        folder,
     } = begun;
     let Ok((to, from)) = unbounded::<Given<K>, Global>(alloc) else {
         return Err(Ending::NoMemory);
@@ -340,13 +347,13 @@ fn open_locked<
 where
     R::Dir: Send,
     requires { IsInRange 1 MOST_WORKERS workers }
-    ensures served { IfOk result (IsServed nothing_known folder.now I.remaining W.contents E.contents input.old output.old output.new errors.old errors.new) }
+    ensures served { IfOk result (IsServed nothing_known folder.now I.remaining W.contents E.contents input.old input.new output.old output.new errors.old errors.new) }
     ensures unbegun { IfErr result (FailsToStart nothing_known folder.now) }
     ensures same { OnErr result ((input.new ≡ input.old) × (output.new ≡ output.old) × (errors.new ≡ errors.old)) }
 {
     let prepared = prepare(rt, alloc, rt, folder)?;
     let begun = begin(rt, rt, alloc, folder, handle, &prepared, workers)?;
-    serve_beside::<Brand, R, I, W, E>(rt, alloc, folder, begun, input, output, errors)
+    serve_beside::<Brand, R, I, W, E>(rt, alloc, begun, input, output, errors)
 }
 
 // An order desk on a folder, which is locked first.
@@ -369,7 +376,7 @@ fn open_named<
 where
     R::Dir: Send,
     requires { IsInRange 1 MOST_WORKERS workers }
-    ensures served { IfOk result (IsServed nothing_known folder.now I.remaining W.contents E.contents input.old output.old output.new errors.old errors.new) }
+    ensures served { IfOk result (IsServed nothing_known folder.now I.remaining W.contents E.contents input.old input.new output.old output.new errors.old errors.new) }
     ensures unbegun { IfErr result (FailsToStart nothing_known folder.now) }
     ensures same { OnErr result ((input.new ≡ input.old) × (output.new ≡ output.old) × (errors.new ≡ errors.old)) }
 {
@@ -398,7 +405,7 @@ fn open_folder<
 where
     R::Dir: Send,
     requires { IsInRange 1 MOST_WORKERS workers }
-    ensures served { IfOk result (IsServed nothing_known folder.now I.remaining W.contents E.contents input.old output.old output.new errors.old errors.new) }
+    ensures served { IfOk result (IsServed nothing_known folder.now I.remaining W.contents E.contents input.old input.new output.old output.new errors.old errors.new) }
     ensures unbegun { IfErr result (FailsToStart nothing_known folder.now) }
     ensures same { OnErr result ((input.new ≡ input.old) × (output.new ≡ output.old) × (errors.new ≡ errors.old)) }
 {

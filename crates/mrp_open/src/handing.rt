@@ -146,8 +146,11 @@ fn make_one<R: Alloc + Threads + Wait + Sync, D: Folder, N: Write>(
     ensures made { MakesRun N.contents maker.old run.now (D.named files.old) (D.named files.new) notes.old notes.new }
 {
     let made = maker.make(rt, alloc, run, files);
-    if let Some(note) = Note::of(&made) {
-        let _ = tell_run(run.snapshot.front(), note, notes);
+    match Note::of(&made) {
+        Some(note) => {
+            let _ = tell_run(run.snapshot.front(), note, notes);
+        }
+        None => {}
     }
 }
 

@@ -62,8 +62,8 @@ hand_over-requires g c =
     runs-of g.T.RunTaker.takes c.answer_batch.new.desk.tables h c.entries.ensures.legal (λ run is. c.requires.taken run (subst (λ (t : Tables). IsRun t run) same is)) in
     subst (λ (es : History). All (IsRunOf g.T.RunTaker.takes) es) (sym (rest-of h n within)) (All-drop (IsRunOf g.T.RunTaker.takes) n h all)
 
-pub returns-in-Ok : goal.returns-in-Ok
-returns-in-Ok g c =
+pub returns-in-Ok-clause-settles : goal.returns-in-Ok-clause-settles
+returns-in-Ok-clause-settles g c =
     let old : Stand = record { desk = c.args.desk.now; journal = g.S.Store.held c.args.journal.now; output = g.W.Write.contents (inner_of c.args.output.now) } in
     let new : Stand = record { desk = c.answer_batch.new.desk; journal = g.S.Store.held c.answer_batch.new.journal; output = g.W.Write.contents (inner_of c.answer_batch.new.output) } in
     let n : ℕ = length c.entries-before.result.now in

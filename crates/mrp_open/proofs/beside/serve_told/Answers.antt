@@ -9,7 +9,7 @@ pub returns-clause-served : goal.returns-clause-served
 returns-clause-served g c =
     let old : Stand = record { desk = c.args.desk.now; journal = g.S.Store.held c.args.journal.now; output = g.W.Write.contents (inner_of c.args.output.now) } in
     let new : Stand = record { desk = c.serve-end.new.desk; journal = g.S.Store.held c.serve-end.new.journal; output = g.W.Write.contents (inner_of c.serve-end.new.output) } in
-    subst (λ (told : Option (List ℕ)). Serves (g.I.Read.remaining (inner_of c.args.input.now)) old new (g.T.RunTaker.told c.args.taker.now) told c.serve-end.result) (sym c.close.ensures) c.serve-end.ensures
+    subst (λ (told : Option (List ℕ)). Serves (g.I.Read.remaining (inner_of c.args.input.now)) old new (g.T.RunTaker.told c.args.taker.now) told c.serve-end.result) (sym c.close.ensures) c.serve-end.ensures.served
 
 pub returns-clause-told : goal.returns-clause-told
 returns-clause-told g c = (
