@@ -38,7 +38,7 @@ use Rattle.mrp_commands.specs.CarryEnds.{CarryEndsBy}
 use Rattle.mrp_main.specs.CheckEnds.{CheckEnds}
 use Rattle.mrp_commands.specs.InspectEnds.{InspectEndsIn}
 use Rattle.mrp_words.specs.Words.{Asks}
-use Rattle.mrp_open.specs.Ends.{DeskEnds, TellsEnd}
+use Rattle.mrp_open.specs.Ends.{DeskEnds, IsTold}
 
 -- how a command answers the script: `plan` in row order, `live` desk by desk
 abbrev pub answering : DayCommand → Answering
@@ -119,7 +119,8 @@ pub record FolderEnds {W : Type 0} (command : DayCommand) (known : Known) (folde
   pub ends : BundleEnds command contents output written read end
 
 -- how a request ends: a day of a folder's files leaves the input as it was; a page and a check are of the day that the
--- input had left; carrying leaves the input as it was; words ask for no check without a folder
+-- input had left; carrying leaves the input as it was; words ask for no check and no order desk without a folder, and one
+-- on a folder ends as `IsDoneAs` says
 abbrev pub RequestEnds : Known → {R W : Type 0} → (R → Option (List ℕ)) → (W → Option (List ℕ)) → Told R → Told R → Told W → Told W → Request → Ending → Type 0
 RequestEnds known remaining contents input read output written (Day command workers None) end = DayEnds command remaining contents input read output written end
 RequestEnds known remaining contents input read output written (Day command workers (Some folder)) end = (read ≡ input) × FolderEnds command known (string_bytes folder) contents output written end
@@ -128,13 +129,7 @@ RequestEnds known remaining contents input read output written (Check (Some fold
 RequestEnds known remaining contents input read output written (Check None) end = (read ≡ input) × (written ≡ output) × (status_of end ≡ status.Usage)
 RequestEnds known remaining contents input read output written (Carry words) end = (read ≡ input) × CarryEndsBy known words contents output written end
 RequestEnds known remaining contents input read output written (Inspect folder) end = (read ≡ input) × InspectEndsIn known (option_map string_bytes folder) contents output written end
-RequestEnds known remaining contents input read output written (Desk workers (Some folder)) end = DeskEnds known (string_bytes folder) remaining contents input read output written end
-RequestEnds known remaining contents input read output written (Desk workers None) end = (read ≡ input) × (written ≡ output) × (status_of end ≡ status.Usage)
-
--- a request for anything but an order desk
-abbrev pub IsNoDesk : Request → Type 0
-IsNoDesk (Desk workers folder) = ⊥
-IsNoDesk _ = ⊤
+RequestEnds known remaining contents input read output written (Desk workers folder) end = (read ≡ input) × (written ≡ output) × (status_of end ≡ status.Usage)
 
 -- how help ends: it was written, or a prefix of it
 abbrev pub HelpEnds : {W : Type 0} → (W → Option (List ℕ)) → Told W → Told W → List ℕ → Ending → Type 0
@@ -142,17 +137,21 @@ HelpEnds contents output written help Done = HasTakenWhole contents output writt
 HelpEnds contents output written help Write = HasGivenUp output written WRITE_TRIES × HasTakenFront contents output written help
 HelpEnds contents output written help _ = ⊥
 
--- how words end that ask for nothing
-abbrev pub NoRequestEnds : {W : Type 0} → (W → Option (List ℕ)) → Told W → Told W → NoRequest → Ending → Type 0
-NoRequestEnds contents output written (none.Help text) end = HelpEnds contents output written (string_bytes text) end
-NoRequestEnds contents output written (none.Usage text) end = (written ≡ output) × (end ≡ Usage text)
-NoRequestEnds contents output written none.NoMemory end = (written ≡ output) × (end ≡ NoMemory)
-
 -- how a command ends, by what its words ask for; words that ask for nothing leave the input as it
 -- was
 abbrev pub Ends : Known → {R W : Type 0} → (R → Option (List ℕ)) → (W → Option (List ℕ)) → Told R → Told R → Told W → Told W → Result Request NoRequest → Ending → Type 0
 Ends known remaining contents input read output written (Ok request) end = RequestEnds known remaining contents input read output written request end
-Ends known remaining contents input read output written (Err given) end = (read ≡ input) × NoRequestEnds contents output written given end
+Ends known remaining contents input read output written (Err (none.Help text)) end = (read ≡ input) × HelpEnds contents output written (string_bytes text) end
+Ends known remaining contents input read output written (Err (none.Usage text)) end = (read ≡ input) × (written ≡ output) × (end ≡ Usage text)
+Ends known remaining contents input read output written (Err none.NoMemory) end = (read ≡ input) × (written ≡ output) × (end ≡ NoMemory)
+
+-- how a command is done, by what its words ask for: an order desk on a folder ends as it says, and all else as above, and
+-- then its end and nothing else is told
+abbrev pub IsDoneAs : Known → {R W E : Type 0} → (R → Option (List ℕ)) → (W → Option (List ℕ)) → (E → Option (List ℕ)) → Told R → Told R → Told W → Told W → Told E → Told E → Result Request NoRequest → Ending → Type 0
+IsDoneAs known remaining contents heard input read output written errors told (Ok (Desk workers (Some folder))) end =
+    DeskEnds known (string_bytes folder) remaining contents heard input read output written errors told end
+IsDoneAs known remaining contents heard input read output written errors told asked end =
+    Ends known remaining contents input read output written asked end × IsTold heard errors told (words_of end)
 
 -- the end of a day that was not written whole
 abbrev pub IsEndOf : DayFault → Ending → Type 0
@@ -168,7 +167,5 @@ pub record IsDone {R W E : Type 0} (remaining : R → Option (List ℕ)) (conten
   pub asked : Result Request NoRequest
   pub asks : Asks words asked
   pub end : Ending
-  pub ends : Ends nothing_known remaining contents input read output written asked end
+  pub done : IsDoneAs nothing_known remaining contents heard input read output written errors told asked end
   pub code : status ≡ code_of (status_of end)
-  -- a line that was cut off is told first
-  pub says : TellsEnd heard errors told end
