@@ -1,5 +1,6 @@
 -- What is told of a folder's files (profile).
 use Rattle.std.specs.Prelude.{ℕ, Bool, true, false, ◌≡◌, ◌≢◌, List, Option, Result, Ok, Err, String, string_bytes}
+use Rattle.std.specs.declared.alloc.Global.{Global}
 use Rattle.mrp_rows.specs.Joined.{joined}
 use Rattle.mrp_rows.specs.declared.fault.Fault.{Fault}
 use Rattle.mrp_rows.specs.declared.fault.Table.TheVariants as t
@@ -38,7 +39,7 @@ pub record IsSurveyOf (sources : List (Option Source)) (survey : Surveyed) : Typ
   pub centres : survey.centres ≡ names_among sources (form_of t.Centres One)
 
 -- the warnings of a shop, or why it is not opened; or out of memory
-abbrev pub WarnsIfOpened : List ℕ → List (Option Source) → Result String OpenFault → Type 0
+abbrev pub WarnsIfOpened : List ℕ → List (Option Source) → Result (String Global) OpenFault → Type 0
 WarnsIfOpened bundle sources (Ok text) = WarnsOf bundle sources (string_bytes text)
 WarnsIfOpened bundle sources (Err why) = Opens bundle (Err why)
 
