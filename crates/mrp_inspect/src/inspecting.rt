@@ -54,6 +54,7 @@ fn push_bare(alloc: Global, path_kind: PathKind, lines: &mut Listing) -> Result<
 
 // Adds the lines of what is wrong with files, and then with their records.
 fn push_all(
+    rt: &impl Threads,
     alloc: Global,
     firsts: &[Option<usize>],
     strays: &[Stray<'_>],
@@ -64,11 +65,12 @@ fn push_all(
     ensures { OnOk result (listed_in lines.new ≡ with_lines (listed_in lines.old) (map stray_text strays.now ++ filter_map (missing_of firsts.now others.now) all_tables ++ survey_lines survey.now)) }
 {
     push_files(alloc, strays, firsts, others, lines)?;
-    push_survey(alloc, survey, lines)
+    push_survey(rt, alloc, survey, lines)
 }
 
 // Adds the line of a folder that has none of the tables, or those of all faults.
 fn push_if(
+    rt: &impl Threads,
     alloc: Global,
     bare: bool,
     path_kind: PathKind,
@@ -83,12 +85,13 @@ fn push_if(
     if bare {
         push_bare(alloc, path_kind, lines)
     } else {
-        push_all(alloc, firsts, strays, others, survey, lines)
+        push_all(rt, alloc, firsts, strays, others, survey, lines)
     }
 }
 
 // Adds the lines of all faults.
 fn push_told(
+    rt: &impl Threads,
     alloc: Global,
     found: &Found,
     firsts: &[Option<usize>],
@@ -103,6 +106,7 @@ fn push_told(
     let bare = is_bare(found);
     let others = found.others.as_slice();
     push_if(
+        rt,
         alloc,
         bare,
         found.path_kind,
@@ -116,6 +120,7 @@ fn push_told(
 
 // The faults of tables that are refused, by a survey of their texts.
 fn faults_of(
+    rt: &impl Threads,
     alloc: Global,
     found: &Found,
     firsts: &[Option<usize>],
@@ -129,7 +134,7 @@ fn faults_of(
 {
     let remark = remark_text(alloc, fault)?;
     let mut lines = Listing::new(alloc, remark);
-    push_told(alloc, found, firsts, strays, survey, &mut lines)?;
+    push_told(rt, alloc, found, firsts, strays, survey, &mut lines)?;
     told_text(alloc, lines, fault)
 }
 
@@ -184,6 +189,7 @@ fn survey_and_open(
 
 // What is told where tables are refused, with a survey of their texts.
 fn inspect_refused(
+    rt: &impl Threads,
     alloc: Global,
     found: &Found,
     firsts: &[Option<usize>],
@@ -198,7 +204,7 @@ fn inspect_refused(
 {
     match why {
         OpenFault::Refused(fault) => {
-            let told = faults_of(alloc, found, firsts, strays, survey, &fault)?;
+            let told = faults_of(rt, alloc, found, firsts, strays, survey, &fault)?;
             Ok(Inspected {
                 text: told,
                 has_faults: true,
@@ -229,7 +235,7 @@ fn inspect_sources(
             text,
             has_faults: false,
         }),
-        Err(why) => inspect_refused(alloc, found, firsts, strays, &survey, why),
+        Err(why) => inspect_refused(rt, alloc, found, firsts, strays, &survey, why),
     }
 }
 
