@@ -5,9 +5,18 @@ import threading
 from .edit_files import edits_of
 from .judging import judge_rounds
 from .trial import Trial
+from .turns import waits
 
 # So many edits are worth a check, and crates with fewer wait for others; so many are the most, unless one crate has more.
-TOGETHER, MOST_TOGETHER = 40, 80
+TOGETHER, MOST_TOGETHER = 60, 130
+
+
+def edits_now(crate, words, turn):
+    """The edits of a crate whose names have one of these words, or all without words: those that are tried in this turn, how many
+    are left to others, and (name, why) of each that is bad."""
+    good, bad = edits_of(crate, words)
+    now = [edit for edit in good if not waits(crate, edit, turn)]
+    return now, len(good) - len(now), bad
 
 
 def go_together(crates):
@@ -20,12 +29,15 @@ def go_together(crates):
 class Waiting:
     """Crates whose edits wait, in the order in which they came."""
 
-    def __init__(self, words):
-        self.crates, self.has_ended, self.words, self.changed = [], False, words, threading.Condition()
+    def __init__(self, words, turn=None):
+        self.crates, self.has_ended, self.changed = [], False, threading.Condition()
+        self.words, self.turn, self.counts = words, turn, {}
 
     def add(self, crate):
+        now, _, _ = edits_now(crate, self.words, self.turn)
         with self.changed:
             self.crates.append(crate)
+            self.counts[crate] = len(now)
             self.changed.notify_all()
 
     def end(self):
@@ -45,7 +57,7 @@ class Waiting:
         """Those from the first on that go together, until they have enough edits; none while there may come more."""
         found, edits = [], 0
         for crate in self.crates:
-            more = len(edits_of(crate, self.words)[0])
+            more = self.counts[crate]
             if not found or edits + more <= MOST_TOGETHER and go_together([*found, crate]):
                 found.append(crate)
                 edits += more
@@ -58,7 +70,8 @@ class Waiting:
 
 def trial_of(crate, given, report, building):
     """A trial of the crate's edits, once what stands below it is built, or None where there is nothing to try."""
-    edits, bad = edits_of(crate, given.words)
+    edits, left, bad = edits_now(crate, given.words, given.turn)
+    report.leave(left)
     for name, why in bad:
         report.end(crate, name, False, f"BAD EDIT: {why}")
     if not edits:
