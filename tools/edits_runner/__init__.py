@@ -76,8 +76,9 @@ Crates together
     A crate without other bodies is handed over as a library in source, a program without its `main`; the crate that is
     checked is an empty one above it. What is shown of a function is the same, but the prover suggests no text for goals that
     stay open: it does that only for the crate that it checks. So one check tries the edits of several crates, and loads once
-    what stands below them. Where the part of one is not believed, none is, and each crate is tried in a check of its own.
-    Crates go together only where all of them are known to be proved: by hand, those that have a library.
+    what stands below them; and one more what is left of several. Where the part of one is not believed, none is, and each half of
+    the crates is tried in a check. Crates go together only where all of them are known to be proved: by hand, those that have a
+    library.
 
 When such a check, a round, is believed
       - no two edits in place name one function, and their order makes no difference to the text;

@@ -87,16 +87,37 @@ def trial_of(crate, given, report, building):
     return Trial(crate, edits, is_proved, lambda text: report.say(f"{crate.name}: {text}"), not given.unspoiled)
 
 
-def open_together(trials):
-    """Tries the first rounds of these crates in one check."""
+def judge_openings(trials):
+    """The next rounds of these crates and what one check of them told, each with its trial; none where it is not believed."""
     rounds = {trial.crate: trial.opening() for trial in trials}
     judged = judge_rounds(rounds)
     for trial in trials:
         told, why = judged[trial.crate]
         if told:
-            trial.opened = rounds[trial.crate], told, why
+            yield trial, rounds[trial.crate], told
         else:
-            trial.say(f"its edits are tried in a check of their own: {why}")
+            trial.say(f"its edits are tried without those of {len(trials) - 1} crates next to them: {why}")
+
+
+def open_together(trials):
+    """Tries the copies of these crates as they stand in one check."""
+    for trial, tried, told in judge_openings(trials):
+        trial.opened = tried, told, None
+
+
+def run_together(trials):
+    """Tries the next rounds of these crates in one check, and so on with those of which something is left for one. Where a check is
+    not believed, each half of its crates is tried so."""
+    if len(trials) < 2 or not go_together([it.crate for it in trials]):
+        return
+    believed = [*judge_openings(trials)]
+    for trial, tried, told in believed:
+        trial.take_opened(tried, told)
+    if believed:
+        run_together([it for it in trials if it.opens()])
+    else:
+        run_together(trials[: len(trials) // 2])
+        run_together(trials[len(trials) // 2 :])
 
 
 def place_together(trials):
@@ -108,12 +129,15 @@ def place_together(trials):
 
 
 def try_together(crates, given, report, building):
-    """Tries the edits of these crates, their first rounds in one check."""
+    """Tries the edits of these crates, their rounds in one check as far as that can be."""
     trials = [trial for trial in (trial_of(crate, given, report, building) for crate in crates) if trial]
     if len(trials) > 1 and all(it.is_proved and it.edits for it in trials) and go_together([it.crate for it in trials]):
-        open_together(trials)
-        if given.unspoiled and any(it.in_place for it in trials):
-            place_together(trials)
+        if not given.unspoiled:
+            run_together(trials)
+        else:
+            open_together(trials)
+            if any(it.in_place for it in trials):
+                place_together(trials)
     for trial in trials:
         for edit, is_well, why in trial.unspoiled_ends() if given.unspoiled else trial.ends():
             report.controls += edit.is_harmless
