@@ -10,16 +10,19 @@ from .bodies import body_at
 from .edit_files import changed_by
 
 TURNS = 3
+# Hours in which the commits of one landing are made.
+LANDING = 6
 PUBLIC = re.compile(r" *pub (?:unsafe )?fn ")
 OF_A_TRAIT = re.compile(r" for |\btrait\b")
 
 
 @dataclass(frozen=True)
 class Turn:
-    """Which third it is, and the names of the crates that have changed since the commit before."""
+    """Which third it is, and what has changed since the landing before: crates, but for their edits, and edits, as `CRATE/NAME`."""
 
     number: int
     changed: frozenset = frozenset()
+    edits: frozenset = frozenset()
 
 
 def told_by_git(top, *words):
@@ -32,16 +35,25 @@ def told_by_git(top, *words):
     return "" if ran.returncode else ran.stdout.strip()
 
 
+def landing_before(top):
+    """What stood some hours before the last commit, on its line of first parents, or where that is younger, the commit before."""
+    made = told_by_git(top, "log", "-1", "--format=%ct")
+    before = f"--before={int(made) - 3600 * LANDING}" if made.isdigit() else ""
+    return before and told_by_git(top, "rev-list", "-1", "--first-parent", before, "HEAD") or "HEAD^1"
+
+
 def turn_at(top):
     """The turn that the last commit draws by its tree, or None where git tells of none: then nothing waits. What has changed is told
-    from the commit before on its first line of parents, where the history reaches so far."""
+    as far as the history reaches."""
     tree = told_by_git(top, "rev-parse", "HEAD^{tree}")
     if not re.fullmatch(r"[0-9a-f]{40,}", tree):
         return None
-    files = told_by_git(top, "diff", "--name-only", "HEAD^1", "--", "crates") + "\n"
+    files = told_by_git(top, "diff", "--name-only", landing_before(top), "--", "crates") + "\n"
     files += told_by_git(top, "diff", "--name-only", "HEAD", "--", "crates") + "\n"
     files += told_by_git(top, "ls-files", "--others", "--exclude-standard", "--", "crates")
-    return Turn(int(tree, 16) % TURNS, frozenset(re.findall(r"(?m)^crates/([^/]+)/", files)))
+    crates = re.findall(r"(?m)^crates/([^/]+)/(?:src|specs|proofs)/", files)
+    edits = re.findall(r"(?m)^crates/([^/]+)/(?:edits|must-fail)/(.*)$", files)
+    return Turn(int(tree, 16) % TURNS, frozenset(crates), frozenset(map("/".join, edits)))
 
 
 def is_left(crate, what, turn):
@@ -51,7 +63,8 @@ def is_left(crate, what, turn):
 
 def waits(crate, edit, turn):
     """Whether an edit is left to other turns."""
-    if edit.is_always_tried or edit.is_harmless or not is_left(crate, f"{crate.name}/{edit.name}", turn):
+    name = f"{crate.name}/{edit.name}"
+    if edit.is_always_tried or edit.is_harmless or not is_left(crate, name, turn) or name in turn.edits:
         return False
     return not changes_what_others_call(crate, edit)
 
@@ -59,7 +72,8 @@ def waits(crate, edit, turn):
 def as_tried(crate, edit, turn):
     """An edit as a turn tries it: of two thirds of the functions it is left to others whether a goal is one of the function as it
     stands."""
-    if edit.goal and edit.goal.binds and is_left(crate, min(edit.functions), turn):
+    is_named = edit.goal and edit.goal.binds and f"{crate.name}/{edit.name}" not in (turn.edits if turn else ())
+    if is_named and is_left(crate, min(edit.functions), turn):
         return replace(edit, goal=replace(edit.goal, is_left=True))
     return edit
 

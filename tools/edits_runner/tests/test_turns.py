@@ -1,3 +1,4 @@
+import os
 import subprocess
 
 from ..copies import copies_of, standing_copies
@@ -32,6 +33,13 @@ class Turns(InAFolder):
         counts = [sum(f"a_sum_of_{at}.edit" in it for it in waiting) for at in range(30)]
         self.assertEqual(counts, [TURNS - 1] * 30)
         self.assertTrue(all(len(it) < 30 for it in waiting))
+
+    def test_one_that_has_changed_does_not_wait(self):
+        own = self.lay_own(9)
+        turns = [Turn(number, edits=frozenset({"own/a_sum_of_3.edit"})) for number in range(TURNS)]
+        names = [{edit.name for edit in edits_of(own, [])[0] if waits(own, edit, turn)} for turn in turns]
+        self.assertFalse(any("a_sum_of_3.edit" in it for it in names))
+        self.assertTrue(any(names))
 
     def test_none_waits_where_there_is_no_turn_or_the_crate_has_changed(self):
         own = self.lay_own(9)
@@ -89,10 +97,11 @@ class Turns(InAFolder):
 
 
 class ByGit(InAFolder):
-    def commit(self):
+    def commit(self, hour):
         who = ["-c", "user.name=a", "-c", "user.email=a@b.c", "-c", "commit.gpgsign=false"]
+        when = {**os.environ, "GIT_COMMITTER_DATE": f"2026-01-02T{hour:02}:00:00Z"}
         for words in (["add", "-A"], [*who, "commit", "-q", "--no-verify", "-m", "so"]):
-            subprocess.run(["git", "-C", self.room, *words], check=True)
+            subprocess.run(["git", "-C", self.room, *words], check=True, env=when)
 
     def setUp(self):
         super().setUp()
@@ -103,16 +112,28 @@ class ByGit(InAFolder):
         self.assertIsNone(turn_at(self.room))
 
     def test_what_has_changed_since_the_commit_before(self):
-        self.small()
         self.lay("crates/one/src/lib.rt", "//! One.\n")
         self.lay("crates/two/src/lib.rt", "//! Two.\n")
-        self.commit()
+        self.commit(1)
         self.assertEqual(turn_at(self.room).changed, frozenset())
         first = turn_at(self.room)
         self.lay("crates/one/src/lib.rt", "//! The one.\n")
         self.assertEqual(turn_at(self.room), Turn(first.number, frozenset({"one"})))
-        self.commit()
+        self.commit(2)
         self.assertEqual(turn_at(self.room).changed, {"one"})
         self.lay("crates/three/src/lib.rt", "//! Three.\n")
         self.assertEqual(turn_at(self.room).changed, {"one", "three"})
         self.assertIn(turn_at(self.room).number, range(TURNS))
+
+    def test_a_landing_has_commits_of_some_hours(self):
+        for at, (name, hour) in enumerate((("one", 1), ("two", 10), ("three", 11), ("four", 12))):
+            self.lay(f"crates/{name}/src/lib.rt", f"//! {at}.\n")
+            self.commit(hour)
+        self.assertEqual(turn_at(self.room).changed, {"two", "three", "four"})
+
+    def test_a_changed_edit_is_no_change_of_its_crate(self):
+        self.lay("crates/one/src/lib.rt", "//! One.\n")
+        self.commit(1)
+        self.lay("crates/one/edits/a.edit", "of: add\n")
+        self.lay("crates/one/README.md", "One.\n")
+        self.assertEqual((turn_at(self.room).changed, turn_at(self.room).edits), (frozenset(), {"one/a.edit"}))
