@@ -36,10 +36,11 @@ def told_by_git(top, *words):
 
 
 def landing_before(top):
-    """What stood some hours before the last commit, on its line of first parents, or where that is younger, the commit before."""
+    """The commit that stood some hours before the last one, on its line of first parents, or where that is younger, its root."""
     made = told_by_git(top, "log", "-1", "--format=%ct")
     before = f"--before={int(made) - 3600 * LANDING}" if made.isdigit() else ""
-    return before and told_by_git(top, "rev-list", "-1", "--first-parent", before, "HEAD") or "HEAD^1"
+    found = before and told_by_git(top, "rev-list", "-1", "--first-parent", before, "HEAD")
+    return found or told_by_git(top, "rev-list", "--first-parent", "HEAD").rpartition("\n")[2]
 
 
 def turn_at(top):

@@ -111,7 +111,7 @@ class ByGit(InAFolder):
         self.assertIsNone(turn_at(f"{self.room}/nowhere"))
         self.assertIsNone(turn_at(self.room))
 
-    def test_what_has_changed_since_the_commit_before(self):
+    def test_what_has_changed_since_the_first_commit(self):
         self.lay("crates/one/src/lib.rt", "//! One.\n")
         self.lay("crates/two/src/lib.rt", "//! Two.\n")
         self.commit(1)
