@@ -53,9 +53,11 @@ loop-preserved g c =
           (λ after. ap (λ (l : List ℕ). told_lines (l ++ w.split_at.result.0.now ++ after)) (sym inside) ∙ w.in_ok-take_piece-in-Some.ensures.brings after) in
           let ended = w.if-branch.false in
           let was = w.in_ok-take_piece-in-Some.was in
-          let none : new.batch ≡ [] = w.in_ok-take_piece-in-Some.ensures.none (cc) in
-          (ap (λ (t : Taken). t.batch) is ∙ none, subst (λ (t : Taken). ToCome c.args.self.now.begun first t.begun next) (sym is) (to-come-on c.args.self.now new first next brings none),
-            reads-more first now next w.split_at.result.0.now c.loop.invariant.waits consumed (w.in_ok-take_piece-in-Some.ensures.waits (cc)))
+          let none : new.batch ≡ [] = w.in_ok-take_piece-in-Some.ensures.none (cc) in (
+            ap (λ (t : Taken). t.batch) is ∙ none,
+            subst (λ (t : Taken). ToCome c.args.self.now.begun first t.begun next) (sym is) (to-come-on c.args.self.now new first next brings none),
+            reads-more first now next w.split_at.result.0.now c.loop.invariant.waits consumed (w.in_ok-take_piece-in-Some.ensures.waits (cc)),
+          )
       | in-None w ↦
           let is : c.match-branch-2.self ≡ c.loop.self = w.self-is in
           let empty = w.in-None.is in
