@@ -1,9 +1,10 @@
-"""Turns: of the edits of functions that a crate keeps for itself a run may try a third, as the last commit draws it."""
+"""Turns: of the edits of functions that a crate keeps for itself, and of the functions as they stand, a run may try a third, as the
+last commit draws it."""
 
 import re
 import subprocess
 import zlib
-from dataclasses import dataclass
+from dataclasses import dataclass, replace
 
 from .bodies import body_at
 from .edit_files import changed_by
@@ -43,12 +44,24 @@ def turn_at(top):
     return Turn(int(tree, 16) % TURNS, frozenset(re.findall(r"(?m)^crates/([^/]+)/", files)))
 
 
+def is_left(crate, what, turn):
+    """Whether something of a crate is left to other turns. Nothing is where there is no turn, or where the crate has changed."""
+    return turn is not None and crate.name not in turn.changed and zlib.crc32(what.encode()) % TURNS != turn.number
+
+
 def waits(crate, edit, turn):
-    """Whether an edit is left to runs of other turns. None is where there is no turn, or where its crate has changed."""
-    if turn is None or crate.name in turn.changed or edit.is_always_tried or edit.is_harmless:
+    """Whether an edit is left to other turns."""
+    if edit.is_always_tried or edit.is_harmless or not is_left(crate, f"{crate.name}/{edit.name}", turn):
         return False
-    drawn = zlib.crc32(f"{crate.name}/{edit.name}".encode()) % TURNS
-    return drawn != turn.number and not changes_what_others_call(crate, edit)
+    return not changes_what_others_call(crate, edit)
+
+
+def as_tried(crate, edit, turn):
+    """An edit as a turn tries it: of two thirds of the functions it is left to others whether a goal is one of the function as it
+    stands."""
+    if edit.goal and edit.goal.binds and is_left(crate, min(edit.functions), turn):
+        return replace(edit, goal=replace(edit.goal, is_left=True))
+    return edit
 
 
 def changes_what_others_call(crate, edit):

@@ -1,8 +1,11 @@
 import subprocess
 
+from ..copies import copies_of, standing_copies
 from ..edit_files import edits_of
+from ..rounds import round_of
 from ..together import Waiting, edits_now
 from ..turns import TURNS, Turn, turn_at, waits
+from ..verdicts import Told
 from .made_up import Crate, InAFolder
 
 SUM = ("one + other;", "one;")
@@ -46,6 +49,27 @@ class Turns(InAFolder):
         for line in ("harmless: the same\n", "always: each row is told twice\n"):
             self.lay("own/edits/a_sum_of_0.edit", f"{line}of: add\nfile: src/lib.rt\nold: one + 0;\nnew: one;\n")
             self.assertEqual(self.waiting(Crate("own", f"{self.room}/own")), [[]] * TURNS)
+
+    def test_goals_of_functions_as_they_stand(self):
+        self.lay_edit("a_sum", "shop::add", *SUM, more="goal: returns c\n")
+        small = self.small()
+
+        def standing(turn):
+            return standing_copies(small, edits_now(small, [], turn)[0])
+
+        self.assertEqual(sorted(len(standing(Turn(number))) for number in range(TURNS)), [0] * (TURNS - 1) + [1])
+        self.assertEqual(len(standing(None)), 1)
+        self.assertEqual([len(standing(Turn(number, frozenset({"small"})))) for number in range(TURNS)], [1] * TURNS)
+
+    def test_a_goal_that_is_left_refuses_as_other_turns_tell(self):
+        self.lay_edit("a_sum", "shop::add", *SUM, more="goal: returns c\n")
+        small = self.small()
+        for number in range(TURNS):
+            ((edit,), _, _) = edits_now(small, [], Turn(number))
+            tried = round_of(small, [edit], {edit: copies_of(small, edit, 0)})
+            told = Told(not_shown={("small::shop::add_spoiled_0", "returns"): "it differs"})
+            tried.settle(told)
+            self.assertEqual(bool(told.refused), edit.goal.is_left)
 
     def test_what_moved_is_bad_in_every_turn(self):
         own = self.lay_own(9)
