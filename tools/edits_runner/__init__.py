@@ -94,10 +94,10 @@ When such a check, a round, is believed
 Turns
     With --in-turn a run tries all edits of functions that other crates can call (public ones and those of traits), all that have
     a line `always:`, the controls, and all that have changed, or whose crate has, in the six hours before the last commit (the
-    commits of one landing). Of the others, those of functions that a crate keeps for itself, it tries a third: the digest of the last commit's
-    tree draws which. And of a crate that has not changed it sees for a third of the functions that the goals that edits name
-    are shown of them as they stand. Such things hang by the crate and by what stands below, so a run most often says what the
-    run before said. An edit whose text has moved is bad in every turn.
+    commits of one landing). Of the others, those of functions that a crate keeps for itself, it tries a third: the digest of the
+    last commit's tree draws which. And of a crate that has not changed it sees for a third of the functions that the goals that
+    edits name are shown of them as they stand. Such things hang by the crate and by what stands below, so a run most often says
+    what the run before said. An edit whose text has moved is bad in every turn.
 
 What an edit is a change of
     A refusal says something only where the function is proved as it stands. In the gate `rt ci` has said so before, and by
