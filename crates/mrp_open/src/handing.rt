@@ -7,6 +7,7 @@ ghost use Rattle.mrp_open.specs.Made.{GivesNext, MakesAll, MakesRun};
 
 use crate::batches::RunTaker;
 use crate::notes::Notes;
+use crate::whole_lines::WholeLines;
 use crossbeam_channel::{Receiver, Sender};
 use mrp_folder::Folder;
 use mrp_rows::Told;
@@ -80,7 +81,7 @@ impl<'a, K: RunKind, R: Eprint + Wait> RunTaker for RunSender<'a, K, R> {
     }
 
     fn miss(&mut self, front: u64) {
-        let mut notes = Told::new(Notes { rt: self.rt });
+        let mut notes = Told::new(WholeLines::new(Notes { rt: self.rt }));
         let _ = tell_run(front, Note::Refused(Refusal::NoMemory), &mut notes);
     }
 
@@ -143,7 +144,7 @@ fn make_one<R: Alloc + Threads + Wait + Sync, D: Folder, N: Write>(
 )
     requires { ∥ IsRun maker.old run.now ∥₁ }
     ensures same { maker.new ≡ maker.old }
-    ensures made { MakesRun N.contents maker.old run.now (D.named files.old) (D.named files.new) notes.old notes.new }
+    ensures made { MakesRun D.Part N.contents maker.old run.now (D.failures files.old) (D.failures files.new) (D.named files.old) (D.named files.new) notes.old notes.new }
 {
     let made = maker.make(rt, alloc, run, files);
     match Note::of(&made) {
@@ -166,7 +167,7 @@ pub fn make_all<G: RunSource, R: Alloc + Threads + Wait + Sync, D: Folder, N: Wr
 )
     requires { (run : Run) → G.gives run → IsRun maker.old run }
     ensures same { maker.new ≡ maker.old }
-    ensures made { MakesAll N.contents maker.old (G.left from.old) (D.named files.old) (D.named files.new) notes.old notes.new }
+    ensures made { MakesAll D.Part N.contents maker.old (G.left from.old) (D.failures files.old) (D.failures files.new) (D.named files.old) (D.named files.new) notes.old notes.new }
 {
     for _ in rt.forever() {
         match from.next_run() {
