@@ -17,7 +17,7 @@ use Rattle.mrp_open.specs.declared.finding.Found.{Found}
 module _ {R W E : Type 0} (opened : Opening) (known : Known) (folder : List ℕ) (remaining : R → Option (List ℕ)) (contents : W → Option (List ℕ)) (heard : E → Option (List ℕ)) (input read : Told R) (output written : Told W) (errors told : Told E) where
   -- a desk that was opened has answered lines, and told its cut and its end
   pub is-served : (found : Found) (tables : Tables) (old : Desk) (cut : Option ℕ) (r : Result Ending Ending) → opened.is_held ≡ true → opened.is_lasting ≡ true
-      → IsPrepared known folder found tables → IsTrue found.takes_records → AnswersJournal tables found.room old → AreUnchanged known folder (length (script_of tables)) (string_bytes found.sum) → cut ≡ cut_of found (length old.entries)
+      → IsPrepared known folder found tables → IsTrue found.takes_records → AnswersJournal tables found.room old → AreUnchanged known folder (length old.entries) (string_bytes found.sum) → cut ≡ cut_of found (length old.entries)
       → IfOk r (λ end. (new : Desk) × ServesOn known folder remaining contents input output written old new end) → IfOk r (TellsEnd heard errors told cut)
       → IfOk r (λ end. end ≡ ending.Read → FailsToRead input read) → IfOk r (IsServed opened known folder remaining contents heard input read output written errors told)
   is-served found tables old cut (Err end) held lasting prepared takes answers unchanged is serves tells fails = tt

@@ -56,7 +56,7 @@ pub record IsServed {R W E : Type 0} (opened : Opening) (known : Known) (folder 
   pub prepared : IsPrepared known folder found tables
   pub takes : IsTrue found.takes_records
   pub answers : AnswersJournal tables found.room old
-  pub unchanged : AreUnchanged known folder (length (script_of tables)) (string_bytes found.sum)
+  pub unchanged : AreUnchanged known folder (length old.entries) (string_bytes found.sum)
   pub serves : ServesOn known folder remaining contents input output written old new end
   pub fails : end ≡ ending.Read → FailsToRead input read
   pub tells : TellsEnd heard errors told (cut_of found (length old.entries)) end

@@ -7,9 +7,9 @@ ghost use Rattle.std.specs.Path.{path_join};
 ghost use Rattle.mrp_rows.specs.Told.{inner_of};
 ghost use Rattle.mrp_journal.specs.Held.{IsSettled, settled};
 ghost use Rattle.mrp_journal.specs.Journal.{IsFound, begun as text_begun};
-ghost use Rattle.mrp_folder.specs.Sealed.{has_seal, journal_of, name_of, text_of};
+ghost use Rattle.mrp_folder.specs.Disk.{part_of, path_of as folder_path};
+ghost use Rattle.mrp_folder.specs.Sealed.{folder_of, has_seal, journal_of, name_of, text_of};
 ghost use Rattle.mrp_engine.specs.declared.day.run.TheConstants.{MOST_WORKERS};
-ghost use Rattle.mrp_script.specs.Script.{script_of};
 ghost use Rattle.mrp_words.specs.Folder.{IsAt, IsThere, nothing_known};
 ghost use Rattle.mrp_calls.specs.Desk.{Desk};
 ghost use Rattle.mrp_commands.specs.declared.ending.Ending.TheVariants as ending;
@@ -168,12 +168,14 @@ fn begin<'a, F: FileStore, R: Files, P: JournalPlace>(
     ensures cut { IfOk result (λ begun. begun.cut ≡ cut_of prepared.now.found (length begun.desk.entries)) }
     ensures sum { IfOk result (λ begun. text_of begun.journal ≡ string_bytes prepared.now.found.sum) }
     ensures name { IfOk result (λ begun. name_of begun.journal ≡ codes "desk.tables") }
+    ensures folder { IfOk result (λ begun. folder_path (folder_of begun.journal) ≡ folder.now) }
+    ensures part { IfOk result (λ begun. part_of (folder_of begun.journal) ≡ codes "desk.part") }
     ensures begun { IfOk result (λ begun. P.Journal.held (journal_of begun.journal) ≡ option_map (λ _. settled (text_begun prepared.now.found.script.items prepared.now.found.header.now)) (P.left place.old)) }
     ensures lasts { OnOk result ((P.opening place.new).is_lasting ≡ true) }
     ensures held { (P.opening place.new).is_held ≡ (P.opening place.old).is_held }
     ensures sealed { IfOk result (λ begun. has_seal begun.journal ≡ true → IsAt (F.known files.now) (sum_path folder.now) (Some (string_bytes prepared.now.found.sum))) }
-    ensures unsealed { IfOk result (λ begun. has_seal begun.journal ≡ false → (length (script_of prepared.now.rows.value.tables) ≡ 0) ⊎ IsAt (F.known files.now) (sum_path folder.now) None) }
-    ensures unchanged { OnOk result (AreUnchanged (F.known files.now) folder.now (length (script_of prepared.now.rows.value.tables)) (string_bytes prepared.now.found.sum)) }
+    ensures unsealed { IfOk result (λ begun. has_seal begun.journal ≡ false → (length begun.desk.entries ≡ 0) ⊎ IsAt (F.known files.now) (sum_path folder.now) None) }
+    ensures unchanged { IfOk result (λ begun. AreUnchanged (F.known files.now) folder.now (length begun.desk.entries) (string_bytes prepared.now.found.sum)) }
     ensures unbegun { IfErr result (FailsToBegin (F.known files.now) folder.now prepared.now.found prepared.now.rows.value.tables) }
 {
     let desk = answer_journal(alloc, prepared)?;
