@@ -1,15 +1,16 @@
 -- How an order desk on a folder ends.
-use Rattle.std.proofs.Common.{◌≡◌, ◌⊎◌, ℕ, true, List, Option, Result, Ok, Err, inl, inr, length, subst, sym}
+use Rattle.std.proofs.Common.{◌≡◌, ◌∙◌, ◌⊎◌, ℕ, true, List, Option, Result, Ok, Err, inl, inr, length, subst, sym}
 use Rattle.std.specs.Prelude.{IfErr, IfOk, IsErrAnd, IsTrue, string_bytes}
 use Rattle.mrp_rows.specs.declared.told.Told.{Told}
 use Rattle.mrp_tables.specs.Tables.{Tables}
 use Rattle.mrp_script.specs.Script.{script_of}
 use Rattle.mrp_words.specs.Folder.{Known}
 use Rattle.mrp_calls.specs.Desk.{Desk}
+use Rattle.mrp_commands.specs.Telling.{words_of}
 use Rattle.mrp_commands.specs.declared.ending.Ending.{Ending}
 use Rattle.mrp_commands.specs.declared.ending.Ending.TheVariants as ending
-use Rattle.mrp_open.specs.Ends.{FailsToBegin, FailsToStart, FailsWithLock, IsServed, ServesOn, TellsEnd, cut_of}
-use Rattle.mrp_open.specs.Opening.{Opening}
+use Rattle.mrp_open.specs.Ends.{DeskEnds, FailsToBegin, FailsToStart, FailsWithLock, IsServed, IsTold, ServesOn, TellsEnd, cut_of}
+use Rattle.mrp_open.specs.Opening.{IsUntouched, Opening}
 use Rattle.mrp_open.specs.Served.{FailsToRead}
 use Rattle.mrp_open.specs.Start.{AnswersJournal, AreUnchanged, FailsToOpen, HasOtherSum, IsPrepared}
 use Rattle.mrp_open.specs.declared.finding.Found.{Found}
@@ -37,6 +38,32 @@ module _ {R W E : Type 0} (opened : Opening) (known : Known) (folder : List ℕ)
     tells = subst (λ (c : Option ℕ). TellsEnd heard errors told c end) is tells;
   }
 
+module _ {R W E : Type 0} (before opened : Opening) (known : Known) (remaining : R → Option (List ℕ)) (contents : W → Option (List ℕ)) (heard : E → Option (List ℕ)) (input read : Told R) (output written : Told W) (errors told : Told E)
+    (folder path : List ℕ) (end : Ending) where
+  -- a desk on a folder has answered lines
+  pub desk-served : folder ≡ path → IsServed opened known folder remaining contents heard input read output written errors told end → DeskEnds before opened known path remaining contents heard input read output written errors told end
+  desk-served is served = inl (subst (λ (f : List ℕ). IsServed opened known f remaining contents heard input read output written errors told end) is served)
+
+  -- a desk on a folder has answered nothing
+  pub desk-unopened : folder ≡ path → read ≡ input → written ≡ output → FailsToStart before opened known folder end → IsTold heard errors told (words_of end)
+      → DeskEnds before opened known path remaining contents heard input read output written errors told end
+  desk-unopened is unread unwritten fails tells = inr (unread, unwritten, subst (λ (f : List ℕ). FailsToStart before opened known f end) is fails, tells)
+
+-- a journal that was not opened before a folder was locked
+pub untouched-since : (first before opened : Opening) (r : Result Ending Ending) → before.is_opened ≡ first.is_opened → IfErr r (IsUntouched before opened) → IfErr r (IsUntouched first opened)
+untouched-since first before opened (Ok end) same is = tt
+untouched-since first before opened (Err end) same (inl touching) = inl touching
+untouched-since first before opened (Err end) same (inr is) = inr (is ∙ same)
+
+-- one without memory
+pub no-memory-touching : (before opened : Opening) (r : Result Ending Ending) → IfErr r (λ end. end ≡ ending.NoMemory) → IfErr r (IsUntouched before opened)
+no-memory-touching before opened (Ok end) is = tt
+no-memory-touching before opened (Err end) is = inl (inl is)
+
+-- one that started from the same opening, or from one since which nothing was opened
+pub starts-since : (known : Known) (folder : List ℕ) (first before opened : Opening) (r : Result Ending Ending) → before ≡ first → IfErr r (FailsToStart before opened known folder) → IfErr r (FailsToStart first opened known folder)
+starts-since known folder first before opened r same fails = subst (λ (o : Opening). IfErr r (FailsToStart o opened known folder)) same fails
+
 -- what holds of an end holds where it is passed on
 pub passed-on : {T : Type 0} (r : Result T Ending) (end : Ending) (P : Ending → Type 0) → IsErrAnd r (λ e. e ≡ end) → P end → IfErr r P
 passed-on (Ok x) end P is p = tt
@@ -58,9 +85,9 @@ module _ (known : Known) (folder : List ℕ) where
     no-memory (Err end) held is = record { held = held; fails = inl (inr (inr is)) }
 
     -- one that had the lock
-    pub with-lock : (before : Opening) (r : Result Ending Ending) → IfErr r (FailsWithLock opened known folder) → IfErr r (FailsToStart before opened known folder)
-    with-lock before (Ok end) fails = tt
-    with-lock before (Err end) fails = inr fails
+    pub with-lock : (before : Opening) (r : Result Ending Ending) → IfErr r (IsUntouched before opened) → IfErr r (FailsWithLock opened known folder) → IfErr r (FailsToStart before opened known folder)
+    with-lock before (Ok end) untouched fails = tt
+    with-lock before (Err end) untouched fails = record { untouched = untouched; fails = inr fails }
 
   module _ (found : Found) (tables : Tables) where
     -- one without memory for its maker of runs' files

@@ -7,7 +7,7 @@ use Rattle.mrp_open.specs.declared.disk.LockFault.TheVariants as lock
 
 -- what a folder of the operating system came to
 abbrev pub opening_of : {R : Type 0} → DeskFolder R → Opening
-opening_of folder = record { is_held = folder.is_held; is_lasting = folder.is_lasting; in_use = folder.in_use; failures = folder.failures }
+opening_of folder = record { is_held = folder.is_held; is_opened = folder.is_opened; is_lasting = folder.is_lasting; in_use = folder.in_use; failures = folder.failures }
 
 -- its path
 abbrev pub path_of : {R : Type 0} → DeskFolder R → List ℕ

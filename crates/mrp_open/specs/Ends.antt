@@ -12,7 +12,7 @@ use Rattle.mrp_calls.specs.Desk.{Desk}
 use Rattle.mrp_commands.specs.Telling.{words_of}
 use Rattle.mrp_commands.specs.declared.ending.Ending.{Ending}
 use Rattle.mrp_commands.specs.declared.ending.Ending.TheVariants as ending
-use Rattle.mrp_open.specs.Opening.{HasFailed, IsInUse, Opening}
+use Rattle.mrp_open.specs.Opening.{HasFailed, IsInUse, IsUntouched, Opening}
 use Rattle.mrp_open.specs.Served.{FailsToRead, MakesUp, Stand}
 use Rattle.mrp_open.specs.Start.{AnswersJournal, AreUnchanged, FailsToOpen, HasOtherSum, IsPrepared, TakesNoMore, cut_number, cut_text}
 use Rattle.mrp_open.specs.declared.finding.Found.{Found}
@@ -81,9 +81,11 @@ pub record FailsWithLock (opened : Opening) (known : Known) (folder : List ℕ) 
   pub held : opened.is_held ≡ true
   pub fails : FailsToOpen known folder end ⊎ IsUnbegun known folder end
 
--- why an order desk on a folder answers nothing
-abbrev pub FailsToStart : Opening → Opening → Known → List ℕ → Ending → Type 0
-FailsToStart before opened known folder end = IsBarred before opened end ⊎ FailsWithLock opened known folder end
+-- why an order desk on a folder answers nothing, and that its journal is then as it was, unless it could not be written or
+-- there was no memory
+pub record FailsToStart (before opened : Opening) (known : Known) (folder : List ℕ) (end : Ending) : Type 0 where
+  pub untouched : IsUntouched before opened end
+  pub fails : IsBarred before opened end ⊎ FailsWithLock opened known folder end
 
 -- how an order desk ends, and what it tells: with lines that were answered, or before any was read or answered
 abbrev pub DeskEnds : Opening → Opening → Known → List ℕ → {R W E : Type 0} → (R → Option (List ℕ)) → (W → Option (List ℕ)) → (E → Option (List ℕ)) → Told R → Told R → Told W → Told W → Told E → Told E → Ending → Type 0

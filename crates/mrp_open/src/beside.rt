@@ -19,6 +19,7 @@ ghost use Rattle.mrp_runs.specs.declared.run.Run.{Run};
 ghost use Rattle.mrp_open.specs.Disk.{opening_of, path_of};
 ghost use Rattle.mrp_open.specs.Ends.{DeskEnds, FailsToBegin, FailsToStart, FailsWithLock, IsServed, ServesOn, TellsEnd, cut_of};
 ghost use Rattle.mrp_open.specs.Made.{MakesAll};
+ghost use Rattle.mrp_open.specs.Opening.{IsUntouched};
 ghost use Rattle.mrp_open.specs.Runs.{HandsAllMissing, HandsMissing, IsRunOf};
 ghost use Rattle.mrp_open.specs.Served.{FailsToRead, FailsToSettle, MakesUp};
 ghost use Rattle.mrp_open.specs.Start.{AnswersJournal, AreUnchanged, sum_path};
@@ -176,6 +177,7 @@ fn begin<'a, F: FileStore, R: Files, P: JournalPlace>(
     ensures sealed { IfOk result (λ begun. has_seal begun.journal ≡ true → IsAt (F.known files.now) (sum_path folder.now) (Some (string_bytes prepared.now.found.sum))) }
     ensures unsealed { IfOk result (λ begun. has_seal begun.journal ≡ false → (length begun.desk.entries ≡ 0) ⊎ IsAt (F.known files.now) (sum_path folder.now) None) }
     ensures unchanged { IfOk result (λ begun. AreUnchanged (F.known files.now) folder.now (length begun.desk.entries) (string_bytes prepared.now.found.sum)) }
+    ensures untouched { IfErr result (IsUntouched (P.opening place.old) (P.opening place.new)) }
     ensures unbegun { IfErr result (FailsToBegin (F.known files.now) folder.now prepared.now.found prepared.now.rows.value.tables) }
 {
     let desk = answer_journal(alloc, prepared)?;
@@ -218,6 +220,7 @@ fn serve_told<F: FileStore, S: Store, I: Read, W: Write, E: Write, T: RunTaker>(
     ensures told { TellsEnd E.contents errors.old errors.new cut result }
     ensures read { result ≡ ending.Read → FailsToRead input.old input.new }
     ensures write { result ≡ ending.Write → FailsToSettle (S.failures journal.old) (S.failures journal.new) output.old output.new }
+    ensures closed { T.closed taker.new ≡ true }
 {
     tell_cut(cut, errors);
     hand_over_missing(files, alloc, folder, desk.entries(), taker);
@@ -269,6 +272,7 @@ where
     ensures told { TellsEnd E.contents errors.old errors.new cut result }
     ensures read { result ≡ ending.Read → FailsToRead input.old input.new }
     ensures write { result ≡ ending.Write → FailsToSettle (S.failures journal.old) (S.failures journal.new) output.old output.new }
+    ensures closed { T.closed taker.new ≡ true }
     ensures made { MakesAll D.Part N.contents maker.old (G.left from.old) (D.failures into.old) (D.failures into.new) (D.named into.old) (D.named into.new) notes.old notes.new }
 {
     let mut beside = ||
@@ -285,6 +289,7 @@ where
         ensures told { TellsEnd E.contents errors.entry.now errors.exit.now cut result }
         ensures read { result ≡ ending.Read → FailsToRead input.entry.now input.exit.now }
         ensures write { result ≡ ending.Write → FailsToSettle (S.failures journal.entry.now) (S.failures journal.exit.now) output.entry.now output.exit.now }
+        ensures closed { T.closed taker.exit.now ≡ true }
     {
         serve_told(
             rt, alloc, files, folder, cut, desk, journal, input, output, errors, taker,
@@ -299,11 +304,13 @@ where
 // Errors: `NoMemory` if there is no memory for handing runs over; nothing was told then.
 fn serve_beside<
     K: RunKind + Send,
+    F: FileStore,
     R: Alloc<A = Global> + Eprint + Files<File = File> + Threads + Wait + Sync,
     I: Read,
     W: Write,
     E: Write,
 >(
+    files: &F,
     rt: &R,
     alloc: Global,
     begun: Begun<'_, R, JournalFile<File>>,
@@ -315,7 +322,7 @@ where
     R::Dir: Send,
     requires given { (run : Run) → K.holds run → IsRun begun.maker run }
     requires taken { (run : Run) → IsRun begun.desk.tables run → K.holds run }
-    ensures served { IfOk result (λ end. (new : Desk) × ServesOn nothing_known begun.entry.folder.now I.remaining W.contents input.old output.old output.new begun.entry.desk new end) }
+    ensures served { IfOk result (λ end. (new : Desk) × ServesOn (F.known files.now) begun.entry.folder.now I.remaining W.contents input.old output.old output.new begun.entry.desk new end) }
     ensures told { IfOk result (TellsEnd E.contents errors.old errors.new begun.entry.cut) }
     ensures read { IfOk result (λ end. end ≡ ending.Read → FailsToRead input.old input.new) }
     ensures memory { IfErr result (λ end. end ≡ ending.NoMemory) }
@@ -338,7 +345,7 @@ where
     Ok(serve_and_make(
         rt,
         alloc,
-        rt,
+        files,
         folder,
         cut,
         &mut maker,
@@ -358,11 +365,13 @@ where
 //
 // Errors: how it ends, where it answers nothing; it is not told then.
 fn open_locked<
+    F: FileStore,
     R: Alloc<A = Global> + Eprint + Files<File = File> + Threads + Wait + Sync,
     I: Read,
     W: Write,
     E: Write,
 >(
+    files: &F,
     rt: &R,
     alloc: Global,
     folder: &str,
@@ -376,24 +385,27 @@ where
     R::Dir: Send,
     requires workers { IsInRange 1 MOST_WORKERS workers }
     requires held { (opening_of place.old).is_held ≡ true }
-    ensures served { IfOk result (IsServed (opening_of place.new) nothing_known folder.now I.remaining W.contents E.contents input.old input.new output.old output.new errors.old errors.new) }
-    ensures unbegun { IfErr result (FailsWithLock (opening_of place.new) nothing_known folder.now) }
+    ensures served { IfOk result (IsServed (opening_of place.new) (F.known files.now) folder.now I.remaining W.contents E.contents input.old input.new output.old output.new errors.old errors.new) }
+    ensures unbegun { IfErr result (FailsWithLock (opening_of place.new) (F.known files.now) folder.now) }
+    ensures untouched { IfErr result (IsUntouched (opening_of place.old) (opening_of place.new)) }
     ensures same { OnErr result ((input.new ≡ input.old) × (output.new ≡ output.old) × (errors.new ≡ errors.old)) }
 {
-    let prepared = prepare(rt, alloc, rt, folder)?;
-    let begun = begin(rt, rt, alloc, folder, place, &prepared, workers)?;
-    serve_beside::<Brand, R, I, W, E>(rt, alloc, begun, input, output, errors)
+    let prepared = prepare(rt, alloc, files, folder)?;
+    let begun = begin(files, rt, alloc, folder, place, &prepared, workers)?;
+    serve_beside::<Brand, F, R, I, W, E>(files, rt, alloc, begun, input, output, errors)
 }
 
 // An order desk on a folder, which is locked first.
 //
 // Errors: how it ends, where it answers nothing; it is not told then.
 fn open_named<
+    F: FileStore,
     R: Alloc<A = Global> + Eprint + Files<File = File> + Threads + Wait + Sync,
     I: Read,
     W: Write,
     E: Write,
 >(
+    files: &F,
     rt: &R,
     alloc: Global,
     folder: &str,
@@ -406,12 +418,14 @@ fn open_named<
 where
     R::Dir: Send,
     requires { IsInRange 1 MOST_WORKERS workers }
-    ensures served { IfOk result (IsServed (opening_of place.new) nothing_known folder.now I.remaining W.contents E.contents input.old input.new output.old output.new errors.old errors.new) }
-    ensures unbegun { IfErr result (FailsToStart (opening_of place.old) (opening_of place.new) nothing_known folder.now) }
+    ensures served { IfOk result (IsServed (opening_of place.new) (F.known files.now) folder.now I.remaining W.contents E.contents input.old input.new output.old output.new errors.old errors.new) }
+    ensures unbegun { IfErr result (FailsToStart (opening_of place.old) (opening_of place.new) (F.known files.now) folder.now) }
     ensures same { OnErr result ((input.new ≡ input.old) × (output.new ≡ output.old) × (errors.new ≡ errors.old)) }
 {
     match place.lock() {
-        Ok(()) => open_locked(rt, alloc, folder, place, workers, input, output, errors),
+        Ok(()) => open_locked(
+            files, rt, alloc, folder, place, workers, input, output, errors,
+        ),
         Err(LockFault::InUse) => Err(Ending::InUse),
         Err(LockFault::Read) => Err(Ending::Read),
     }
@@ -419,11 +433,13 @@ where
 
 // The same, with the numbers of closed streams taken, so that no file of the folder gets one.
 fn open_folder<
+    F: FileStore,
     R: Alloc<A = Global> + Eprint + Files<File = File> + Threads + Wait + Sync,
     I: Read,
     W: Write,
     E: Write,
 >(
+    files: &F,
     rt: &R,
     alloc: Global,
     folder: &str,
@@ -436,13 +452,15 @@ fn open_folder<
 where
     R::Dir: Send,
     requires { IsInRange 1 MOST_WORKERS workers }
-    ensures served { IfOk result (IsServed (opening_of place.new) nothing_known folder.now I.remaining W.contents E.contents input.old input.new output.old output.new errors.old errors.new) }
-    ensures unbegun { IfErr result (FailsToStart (opening_of place.old) (opening_of place.new) nothing_known folder.now) }
+    ensures served { IfOk result (IsServed (opening_of place.new) (F.known files.now) folder.now I.remaining W.contents E.contents input.old input.new output.old output.new errors.old errors.new) }
+    ensures unbegun { IfErr result (FailsToStart (opening_of place.old) (opening_of place.new) (F.known files.now) folder.now) }
     ensures same { OnErr result ((input.new ≡ input.old) × (output.new ≡ output.old) × (errors.new ≡ errors.old)) }
 {
     match place.hold_streams() {
         Ok(held) => {
-            let end = open_named(rt, alloc, folder, place, workers, input, output, errors);
+            let end = open_named(
+                files, rt, alloc, folder, place, workers, input, output, errors,
+            );
             drop(held);
             end
         }
@@ -472,7 +490,7 @@ where
     ensures { DeskEnds (opening_of place.old) (opening_of place.new) nothing_known (path_of place.old) I.remaining W.contents E.contents input.old input.new output.old output.new errors.old errors.new result }
 {
     let folder = place.path();
-    match open_folder(rt, alloc, folder, place, workers, input, output, errors) {
+    match open_folder(rt, rt, alloc, folder, place, workers, input, output, errors) {
         Ok(end) => end,
         Err(end) => {
             let _ = end.tell(errors);

@@ -98,7 +98,8 @@ fn sync_folder<F: OpenFile>(handle: &Option<F>) -> io::Result<()> {
 }
 
 /// A folder of the operating system that an order desk is opened on. What its calls answered is told: whether it is
-/// locked and its names are durable, how often another desk had the lock, and how many calls failed.
+/// locked, its journal was opened and its names are durable, how often another desk had the lock, and how many calls
+/// failed.
 #[derive(Drop)]
 pub struct DeskFolder<'a, R> {
     files: &'a R,
@@ -107,6 +108,7 @@ pub struct DeskFolder<'a, R> {
     // Its own handle, which has the lock.
     handle: Option<File>,
     is_held: bool,
+    is_opened: bool,
     is_lasting: bool,
     in_use: u64,
     failures: u64,
@@ -128,6 +130,7 @@ impl<'a, R> DeskFolder<'a, R> {
             path,
             handle: None,
             is_held: false,
+            is_opened: false,
             is_lasting: false,
             in_use: 0,
             failures: 0,
@@ -143,7 +146,8 @@ impl<'a, R> DeskFolder<'a, R> {
 
     // Counts a call that failed.
     fn fail(&mut self)
-        ensures { HasFailed (opening_of self.old) (opening_of self.new) }
+        ensures failed { HasFailed (opening_of self.old) (opening_of self.new) }
+        ensures unopened { (opening_of self.new).is_opened ≡ (opening_of self.old).is_opened }
     {
         self.failures = self.failures.saturating_add(1);
     }
@@ -161,6 +165,7 @@ impl<'a, R: Files<File = File>> DeskFolder<'a, R> {
     pub fn hold_streams(&mut self) -> Result<[File; 3], LockFault>
         ensures sound { OnOk result (opening_of self.new ≡ opening_of self.old) }
         ensures failed { OnErr result (HasFailed (opening_of self.old) (opening_of self.new)) }
+        ensures unopened { (opening_of self.new).is_opened ≡ (opening_of self.old).is_opened }
     {
         match open_null(self.files) {
             Ok(handles) => Ok(handles),
@@ -175,7 +180,8 @@ impl<'a, R: Files<File = File>> DeskFolder<'a, R> {
     ///
     /// Errors: `InUse` if another process has the lock; `Read` if the folder can't be opened or locked.
     pub fn lock(&mut self) -> Result<(), LockFault>
-        ensures { TellsLock (opening_of self.old) (opening_of self.new) result }
+        ensures told { TellsLock (opening_of self.old) (opening_of self.new) result }
+        ensures unopened { (opening_of self.new).is_opened ≡ (opening_of self.old).is_opened }
     {
         match lock_folder(self.files, self.path) {
             Ok(handle) => {
@@ -209,6 +215,7 @@ impl<'a, R: Files<File = File>> JournalPlace for DeskFolder<'a, R> {
     fn open_journal(&mut self) -> Result<JournalFile<File>, Ending> {
         match open_journal(self.files, self.alloc, self.path) {
             Ok(journal) => {
+                self.is_opened = true;
                 self.is_lasting = false;
                 Ok(journal)
             }

@@ -63,11 +63,13 @@ fn to_hand<K: RunKind>(run: Run) -> Given<K>
 }
 
 impl<'a, K: RunKind, R: Eprint + Wait> RunTaker for RunSender<'a, K, R> {
-    ghost use Rattle.std.specs.Prelude.{None};
+    ghost use Rattle.std.specs.Prelude.{None, is_none};
 
     ghost takes = { K.holds };
 
     ghost told = { λ _. None };
+
+    ghost closed = { λ sender. is_none sender.to };
 
     fn take(&mut self, run: Run) {
         let front = run.snapshot.front();

@@ -3,7 +3,7 @@
 ghost use Rattle.std.specs.Prelude.{◌≡◌, Option, IfErr, IfOk, OnOk};
 ghost use Rattle.mrp_journal.specs.Held.{Held};
 ghost use Rattle.mrp_commands.specs.declared.ending.Ending.TheVariants as ending;
-ghost use Rattle.mrp_open.specs.Opening.{FailsToOpenJournal, HasFailed, Opening, lasting, unlasting};
+ghost use Rattle.mrp_open.specs.Opening.{FailsToOpenJournal, HasFailed, Opening, lasting, with_journal};
 
 use mrp_commands::Ending;
 use mrp_journal::Store;
@@ -24,7 +24,7 @@ pub trait JournalPlace {
     /// Errors: `Write` if it could not be opened, `NoMemory` if an allocation failed.
     fn open_journal(&mut self) -> Result<Self::Journal, Ending>
         ensures left { IfOk result (λ journal. Self.Journal.held journal ≡ left self.old) }
-        ensures opened { OnOk result (opening self.new ≡ unlasting (opening self.old)) }
+        ensures opened { OnOk result (opening self.new ≡ with_journal (opening self.old)) }
         ensures failed { IfErr result (λ end. FailsToOpenJournal (opening self.old) (opening self.new) end) };
 
     /// Makes the names of its files durable.

@@ -18,7 +18,7 @@ returns-clause-served g c =
     let handed = g.T.RunTaker.told c.hand_over_missing.new.taker in (
       handed,
       subst (λ (h : History). HandsAllMissing (g.F.FileStore.known c.args.files.now) c.args.folder.now h (g.T.RunTaker.told c.args.taker.now) handed) c.entries.ensures.entries c.hand_over_missing.ensures,
-      subst (λ (told : Option (List ℕ)). Serves (g.I.Read.remaining (inner_of c.args.input.now)) old new handed told c.serve-end.result) (sym c.close.ensures) c.serve-end.ensures.served,
+      subst (λ (told : Option (List ℕ)). Serves (g.I.Read.remaining (inner_of c.args.input.now)) old new handed told c.serve-end.result) (sym c.close.ensures.told) c.serve-end.ensures.served,
     )
 
 pub returns-clause-told : goal.returns-clause-told
