@@ -6,10 +6,9 @@ use Rattle.mrp_tables.specs.Tables.{Tables}
 use Rattle.mrp_script.specs.Script.{script_of}
 use Rattle.mrp_words.specs.Folder.{Known}
 use Rattle.mrp_calls.specs.Desk.{Desk}
-use Rattle.mrp_commands.specs.Telling.{words_of}
 use Rattle.mrp_commands.specs.declared.ending.Ending.{Ending}
 use Rattle.mrp_commands.specs.declared.ending.Ending.TheVariants as ending
-use Rattle.mrp_open.specs.Ends.{DeskEnds, FailsToBegin, FailsToStart, FailsWithLock, IsServed, IsTold, ServesOn, TellsEnd, cut_of}
+use Rattle.mrp_open.specs.Ends.{FailsToBegin, FailsToStart, FailsWithLock, IsServed, ServesOn, TellsEnd, cut_of}
 use Rattle.mrp_open.specs.Opening.{IsUntouched, Opening}
 use Rattle.mrp_open.specs.Served.{FailsToRead}
 use Rattle.mrp_open.specs.Start.{AnswersJournal, AreUnchanged, FailsToOpen, HasOtherSum, IsPrepared}
@@ -37,17 +36,6 @@ module _ {R W E : Type 0} (opened : Opening) (known : Known) (folder : List ℕ)
     fails = fails;
     tells = subst (λ (c : Option ℕ). TellsEnd heard errors told c end) is tells;
   }
-
-module _ {R W E : Type 0} (before opened : Opening) (known : Known) (remaining : R → Option (List ℕ)) (contents : W → Option (List ℕ)) (heard : E → Option (List ℕ)) (input read : Told R) (output written : Told W) (errors told : Told E)
-    (folder path : List ℕ) (end : Ending) where
-  -- a desk on a folder has answered lines
-  pub desk-served : folder ≡ path → IsServed opened known folder remaining contents heard input read output written errors told end → DeskEnds before opened known path remaining contents heard input read output written errors told end
-  desk-served is served = inl (subst (λ (f : List ℕ). IsServed opened known f remaining contents heard input read output written errors told end) is served)
-
-  -- a desk on a folder has answered nothing
-  pub desk-unopened : folder ≡ path → read ≡ input → written ≡ output → FailsToStart before opened known folder end → IsTold heard errors told (words_of end)
-      → DeskEnds before opened known path remaining contents heard input read output written errors told end
-  desk-unopened is unread unwritten fails tells = inr (unread, unwritten, subst (λ (f : List ℕ). FailsToStart before opened known f end) is fails, tells)
 
 -- a journal that was not opened before a folder was locked
 pub untouched-since : (first before opened : Opening) (r : Result Ending Ending) → before.is_opened ≡ first.is_opened → IfErr r (IsUntouched before opened) → IfErr r (IsUntouched first opened)
@@ -90,16 +78,7 @@ module _ (known : Known) (folder : List ℕ) where
     with-lock before (Err end) untouched fails = record { untouched = untouched; fails = inr fails }
 
   module _ (found : Found) (tables : Tables) where
-    -- one without memory for its maker of runs' files
-    pub no-maker : (end : Ending) → end ≡ ending.NoMemory → FailsToBegin known folder found tables end
-    no-maker end is = inl (inr is)
-
     -- one whose tables have another sum
     pub other-sum : (records : ℕ) (end : Ending) → IsTrue found.takes_records → records ≡ length (script_of tables) → HasOtherSum known folder records (string_bytes found.sum) end → FailsToBegin known folder found tables end
     other-sum records end takes count other =
         inr (takes, inl (subst (λ (n : ℕ). HasOtherSum known folder n (string_bytes found.sum) end) count other))
-
-    -- one whose journal was not begun
-    pub unwritten : (end : Ending) → IsTrue found.takes_records → (end ≡ ending.NoMemory) ⊎ (end ≡ ending.Write) → FailsToBegin known folder found tables end
-    unwritten end takes (inl memory) = inl (inr memory)
-    unwritten end takes (inr write) = inr (takes, inr write)

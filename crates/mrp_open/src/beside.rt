@@ -442,7 +442,6 @@ fn open_folder<
     files: &F,
     rt: &R,
     alloc: Global,
-    folder: &str,
     place: &mut DeskFolder<'_, R>,
     workers: usize,
     input: &mut Told<I>,
@@ -452,10 +451,11 @@ fn open_folder<
 where
     R::Dir: Send,
     requires { IsInRange 1 MOST_WORKERS workers }
-    ensures served { IfOk result (IsServed (opening_of place.new) (F.known files.now) folder.now I.remaining W.contents E.contents input.old input.new output.old output.new errors.old errors.new) }
-    ensures unbegun { IfErr result (FailsToStart (opening_of place.old) (opening_of place.new) (F.known files.now) folder.now) }
+    ensures served { IfOk result (IsServed (opening_of place.new) (F.known files.now) (path_of place.old) I.remaining W.contents E.contents input.old input.new output.old output.new errors.old errors.new) }
+    ensures unbegun { IfErr result (FailsToStart (opening_of place.old) (opening_of place.new) (F.known files.now) (path_of place.old)) }
     ensures same { OnErr result ((input.new ≡ input.old) × (output.new ≡ output.old) × (errors.new ≡ errors.old)) }
 {
+    let folder = place.path();
     match place.hold_streams() {
         Ok(held) => {
             let end = open_named(
@@ -489,8 +489,7 @@ where
     requires { IsInRange 1 MOST_WORKERS workers }
     ensures { DeskEnds (opening_of place.old) (opening_of place.new) nothing_known (path_of place.old) I.remaining W.contents E.contents input.old input.new output.old output.new errors.old errors.new result }
 {
-    let folder = place.path();
-    match open_folder(rt, rt, alloc, folder, place, workers, input, output, errors) {
+    match open_folder(rt, rt, alloc, place, workers, input, output, errors) {
         Ok(end) => end,
         Err(end) => {
             let _ = end.tell(errors);
