@@ -32,8 +32,10 @@ abbrev pub IsTold : {E : Type 0} → (E → Option (List ℕ)) → Told E → To
 IsTold contents old new text = HasTakenAll contents old new text ⊎ (HasGivenUp old new WRITE_TRIES × HasTakenFront contents old new text)
 
 -- two texts are told, one after the other
-abbrev pub TellsBoth : {E : Type 0} → (E → Option (List ℕ)) → Told E → Told E → List ℕ → List ℕ → Type 0
-TellsBoth {E} contents old new one two = (between : Told E) × IsTold contents old between one × IsTold contents between new two
+pub record TellsBoth {E : Type 0} (contents : E → Option (List ℕ)) (old new : Told E) (one two : List ℕ) : Type 0 where
+  pub between : Told E
+  pub first : IsTold contents old between one
+  pub second : IsTold contents between new two
 
 -- the record that half a line of a journal with so many records would have been, if there is one
 abbrev pub cut_of : Found → ℕ → Option ℕ

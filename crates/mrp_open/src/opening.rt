@@ -7,7 +7,7 @@ ghost use Rattle.mrp_journal.specs.Held.{Becomes, settled};
 ghost use Rattle.mrp_journal.specs.Journal.{BeginsSafely, IsFound, begun};
 ghost use Rattle.mrp_commands.specs.declared.ending.Ending.TheVariants as ending;
 ghost use Rattle.mrp_open.specs.Ends.{IsTold};
-ghost use Rattle.mrp_open.specs.Opening.{HasFailed, IsFailing, lasting};
+ghost use Rattle.mrp_open.specs.Opening.{HasFailed, IsFailing, lasting, with_journal};
 ghost use Rattle.mrp_open.specs.Start.{cut_number, cut_text};
 
 use crate::finding::Found;
@@ -37,7 +37,7 @@ fn begin_store<S: Store>(journal: &mut S, found: &Found) -> Result<(), Ending>
 pub fn begin_journal<P: JournalPlace>(place: &mut P, found: &Found) -> Result<P::Journal, Ending>
     requires { IfSome (P.left place.old) (IsFound found.now.script.items) }
     ensures begun { IfOk result (λ journal. P.Journal.held journal ≡ option_map (λ _. settled (begun found.now.script.items found.now.header.now)) (P.left place.old)) }
-    ensures lasts { OnOk result (P.opening place.new ≡ lasting (P.opening place.old)) }
+    ensures lasts { OnOk result (P.opening place.new ≡ lasting (with_journal (P.opening place.old))) }
     ensures held { (P.opening place.new).is_held ≡ (P.opening place.old).is_held }
     ensures end { IfErr result (λ end. (end ≡ ending.NoMemory) ⊎ (end ≡ ending.Write)) }
     ensures write { result ≡ Err ending.Write → HasFailed (P.opening place.old) (P.opening place.new) ⊎ IsFailing P.Journal.failures }

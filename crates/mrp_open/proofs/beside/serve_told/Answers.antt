@@ -22,8 +22,8 @@ returns-clause-served g c =
     )
 
 pub returns-clause-told : goal.returns-clause-told
-returns-clause-told g c = (
-  c.tell_cut.new.errors,
-  c.tell_cut.ensures,
-  is-told g.E.Write.contents c.tell_cut.new.errors c.tell.new.errors (words_of c.serve-end.result) c.tell.result c.tell.ensures.whole c.tell.ensures.front c.tell.ensures.gave_up,
-)
+returns-clause-told g c = record {
+  between = c.tell_cut.new.errors;
+  first = c.tell_cut.ensures;
+  second = is-told g.E.Write.contents c.tell_cut.new.errors c.tell.new.errors (words_of c.serve-end.result) c.tell.result c.tell.ensures.whole c.tell.ensures.front c.tell.ensures.gave_up;
+}
