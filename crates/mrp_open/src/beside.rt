@@ -167,6 +167,7 @@ fn begin<'a, F: FileStore, R: Files, P: JournalPlace>(
     ensures maker { IfOk result (λ begun. begun.maker ≡ prepared.now.rows.value.tables) }
     ensures takes { OnOk result (IsTrue prepared.now.found.takes_records) }
     ensures cut { IfOk result (λ begun. begun.cut ≡ cut_of prepared.now.found (length begun.desk.entries)) }
+    ensures at { IfOk result (λ begun. begun.folder.now ≡ folder.now) }
     ensures sum { IfOk result (λ begun. text_of begun.journal ≡ string_bytes prepared.now.found.sum) }
     ensures name { IfOk result (λ begun. name_of begun.journal ≡ codes "desk.tables") }
     ensures folder { IfOk result (λ begun. folder_path (folder_of begun.journal) ≡ folder.now) }

@@ -1,8 +1,10 @@
-use Rattle.std.proofs.Common.{◌≡◌, ◌∙◌, refl, inr, subst, sym}
+use Rattle.std.proofs.Common.{◌≡◌, ◌∙◌, ℕ, List, refl, inr, subst, sym}
+use Rattle.std.specs.Prelude.{IfOk}
 use Rattle.mrp_tables.specs.Tables.{Tables}
+use Rattle.mrp_calls.specs.Desk.{Desk}
 use Rattle.mrp_runs.specs.File.{IsRun}
 use Rattle.mrp_open.specs.Disk.{opening_of}
-use Rattle.mrp_open.specs.Ends.{FailsWithLock}
+use Rattle.mrp_open.specs.Ends.{FailsWithLock, ServesOn}
 use Rattle.mrp_open.specs.Opening.{IsUntouched}
 use Rattle.mrp_open.proofs.Ended.{is-served, no-memory, no-memory-touching, not-begun, not-opened, passed-on}
 use Rattle.mrp_open.proofs.beside.open_locked.Goals as goal
@@ -40,9 +42,12 @@ serve_beside-requires-clause-taken g c lifetimes lives run is =
 pub returns-clause-served : goal.returns-clause-served
 returns-clause-served g c =
     let prepared = c.in_ok-prepared.prepared in
-    is-served (opening_of c.begin.new.place) (g.F.FileStore.known c.args.files.now) c.args.folder.now g.I.Read.remaining g.W.Write.contents g.E.Write.contents c.args.input.now c.serve_beside.new.input c.args.output.now c.serve_beside.new.output c.args.errors.now c.serve_beside.new.errors
+    let known = g.F.FileStore.known c.args.files.now in
+    let serves = subst (λ (f : List ℕ). IfOk c.serve_beside.result (λ end. (new : Desk) × ServesOn known f g.I.Read.remaining g.W.Write.contents c.args.input.now c.args.output.now c.serve_beside.new.output c.in_ok-begun.begun.desk new end))
+    c.in_ok-begun.ensures.at c.serve_beside.ensures.served in
+    is-served (opening_of c.begin.new.place) known c.args.folder.now g.I.Read.remaining g.W.Write.contents g.E.Write.contents c.args.input.now c.serve_beside.new.input c.args.output.now c.serve_beside.new.output c.args.errors.now c.serve_beside.new.errors
     prepared.found prepared.rows.value.tables c.in_ok-begun.begun.desk c.in_ok-begun.begun.cut c.serve_beside.result (c.begin.ensures.held ∙ c.requires.held) c.in_ok-begun.ensures.lasts
-    c.in_ok-prepared.ensures.prepared c.in_ok-begun.ensures.takes c.in_ok-begun.ensures.desk c.in_ok-begun.ensures.unchanged c.in_ok-begun.ensures.cut c.serve_beside.ensures.served c.serve_beside.ensures.told c.serve_beside.ensures.read
+    c.in_ok-prepared.ensures.prepared c.in_ok-begun.ensures.takes c.in_ok-begun.ensures.desk c.in_ok-begun.ensures.unchanged c.in_ok-begun.ensures.cut serves c.serve_beside.ensures.told c.serve_beside.ensures.read
 
 pub returns-clause-unbegun : goal.returns-clause-unbegun
 returns-clause-unbegun g c = no-memory (g.F.FileStore.known c.args.files.now) c.args.folder.now (opening_of c.begin.new.place) c.serve_beside.result (c.begin.ensures.held ∙ c.requires.held) c.serve_beside.ensures.memory
