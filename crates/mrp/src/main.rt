@@ -2,10 +2,11 @@
 #![tactic(auto)]
 
 use mrp_main::run_words;
+use mrp_open::WholeLines;
 use mrp_rows::Told;
 use mrp_words::{Hint, QuietErrors, SeenInput, SeenOutput, Sights, begins_utf16, has_stray_word};
 use std::fs::File;
-use std::io::{ErrorKind, LineWriter, Read};
+use std::io::{ErrorKind, Read, Write};
 use std::path::Path;
 use std::process::ExitCode;
 use std::rt::{Env, Files};
@@ -159,22 +160,21 @@ fn main(rt: HostRuntime) -> ExitCode {
             &sights
         },
     };
-    // The text of a line is one write, so that nothing gets into it that another thread writes.
+    // A line of up to 512 bytes is one write, so that nothing gets into it that another thread writes.
     let errors = QuietErrors {
         inner: rt.stderr(),
         sights: &sights,
     };
-    let Ok(errors) = LineWriter::new(rt.alloc(), errors) else {
-        return give_up(&rt, NO_MEMORY);
-    };
+    let mut errors = Told::new(WholeLines::new(errors));
     let status = run_words(
         &rt,
         rt.alloc(),
         &words,
         &mut Told::new(input),
         &mut Told::new(output),
-        &mut Told::new(errors),
+        &mut errors,
     );
+    let _ = errors.flush();
     if status != DONE {
         say_hints(&rt, &words, &sights);
     }

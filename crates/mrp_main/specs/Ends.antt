@@ -39,6 +39,7 @@ use Rattle.mrp_main.specs.CheckEnds.{CheckEnds}
 use Rattle.mrp_commands.specs.InspectEnds.{InspectEndsIn}
 use Rattle.mrp_words.specs.Words.{Asks}
 use Rattle.mrp_open.specs.Ends.{DeskEnds, IsTold}
+use Rattle.mrp_open.specs.Opening.{Opening, unopened}
 
 -- how a command answers the script: `plan` in row order, `live` desk by desk
 abbrev pub answering : DayCommand → Answering
@@ -149,7 +150,7 @@ Ends known remaining contents input read output written (Err none.NoMemory) end 
 -- then its end and nothing else is told
 abbrev pub IsDoneAs : Known → {R W E : Type 0} → (R → Option (List ℕ)) → (W → Option (List ℕ)) → (E → Option (List ℕ)) → Told R → Told R → Told W → Told W → Told E → Told E → Result Request NoRequest → Ending → Type 0
 IsDoneAs known remaining contents heard input read output written errors told (Ok (Desk workers (Some folder))) end =
-    DeskEnds known (string_bytes folder) remaining contents heard input read output written errors told end
+    (opened : Opening) × DeskEnds unopened opened known (string_bytes folder) remaining contents heard input read output written errors told end
 IsDoneAs known remaining contents heard input read output written errors told asked end =
     Ends known remaining contents input read output written asked end × IsTold heard errors told (words_of end)
 

@@ -9,7 +9,7 @@ ghost use Rattle.mrp_words.specs.Words.{HasWorkers};
 use crate::check::check_day;
 use crate::day::{make_day, make_day_of_folder};
 use mrp_commands::{Ending, carry_asked, inspect_asked, make_page};
-use mrp_open::open_desk;
+use mrp_open::{DeskFolder, open_desk};
 use mrp_rows::{Told, Tries, write_text};
 use mrp_words::{FileStore, NoRequest, Request, read_words};
 use std::alloc::Global;
@@ -113,7 +113,10 @@ where
                 workers,
                 folder: Some(folder),
             },
-        ) => open_desk(rt, alloc, &folder, workers, input, output, errors),
+        ) => {
+            let mut place = DeskFolder::new(rt, alloc, &folder);
+            open_desk(rt, alloc, &mut place, workers, input, output, errors)
+        }
         asked => {
             let end = carry_out(rt, alloc, rt, asked, input, output);
             let _ = end.tell(errors);

@@ -2,6 +2,7 @@ pub mod Ended
 pub mod Failing
 pub mod Folders
 pub mod Making
+pub mod OpenFolders
 pub mod Runs
 pub mod Settled
 pub mod Starting

@@ -14,11 +14,12 @@ use Rattle.mrp_script.specs.Opened.{IsRefused, Opens}
 use Rattle.mrp_script.specs.Script.{script_of}
 use Rattle.mrp_script.specs.declared.fault.OpenFault.{OpenFault}
 use Rattle.mrp_script.specs.declared.fault.OpenFault.TheVariants as opening
-use Rattle.mrp_words.specs.Folder.{Known}
+use Rattle.mrp_words.specs.Folder.{IsTooLongAt, Known}
 use Rattle.mrp_commands.specs.Refusal.{TellsFault, TellsOpening, end_of_read}
 use Rattle.mrp_commands.specs.declared.ending.Ending.{Ending}
 use Rattle.mrp_commands.specs.declared.ending.Ending.TheVariants as ending
-use Rattle.mrp_open.specs.Start.{FailsToOpen, HasOtherSum, IsTooLong, TellsRefused}
+use Rattle.mrp_open.specs.Start.{FailsToOpen, HasOtherSum, IsTooLong, TellsRefused, sum_path}
+use Rattle.mrp_open.specs.declared.start.TheConstants.{MOST_SUM}
 
 -- a folder could not be read
 pub fails-read : (known : Known) (folder : List ℕ) (fault : ReadFault) (end : Ending) → end ≡ end_of_read fault → (fault ≡ read.Read → IsTooLong known folder) → FailsToOpen known folder end
@@ -31,9 +32,10 @@ tells-refused bundle (opening.Refused f) end opens tells = inl (f, opens.0, tell
 tells-refused bundle opening.NoMemory end opens tells = inr tells
 
 -- a file of the sum could not be read
-pub sum-unread : (known : Known) (folder : List ℕ) (records : ℕ) (sum : List ℕ) (fault : ReadFault) (end : Ending) → end ≡ end_of_read fault → HasOtherSum known folder records sum end
-sum-unread known folder records sum read.Read end is = inr (inl is)
-sum-unread known folder records sum read.NoMemory end is = inr (inr is)
+pub sum-unread : (known : Known) (folder : List ℕ) (records : ℕ) (sum : List ℕ) (fault : ReadFault) (end : Ending) → end ≡ end_of_read fault → (fault ≡ read.Read → IsTooLongAt known (sum_path folder) MOST_SUM)
+    → HasOtherSum known folder records sum end
+sum-unread known folder records sum read.Read end is past = inr (inl (is, past refl))
+sum-unread known folder records sum read.NoMemory end is past = inr (inr is)
 
 -- as many entries as records
 pub as-many : (h : History) (tables : Tables) → asked h ≡ script_of tables → length h ≡ length (script_of tables)

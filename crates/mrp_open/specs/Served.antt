@@ -13,7 +13,8 @@ use Rattle.mrp_calls.specs.Answers.{Answers}
 use Rattle.mrp_calls.specs.Desk.{Desk}
 use Rattle.mrp_commands.specs.declared.ending.Ending.{Ending}
 use Rattle.mrp_commands.specs.declared.ending.Ending.TheVariants as ending
-use Rattle.mrp_open.specs.Runs.{HandsOverAll}
+use Rattle.mrp_words.specs.Folder.{Known}
+use Rattle.mrp_open.specs.Runs.{HandsAllMissing, HandsOverAll}
 
 -- a desk with its journal and its output, as far as these are known
 pub record Stand : Type 0 where
@@ -109,3 +110,8 @@ pub record Serves (given : Option (List ℕ)) (old new : Stand) (told_old told_n
   pub given_are : IfSome given (λ text. told_lines text ≡ lines ++ (more ++ rest))
   pub all : end ≡ ending.Done → (more ≡ []) × (rest ≡ []) × (new ≡ between)
   pub ends : IsServingEnd end
+
+-- runs of the journal without a file in the folder are told, and then lines of the input are answered
+abbrev pub MakesUp : Known → List ℕ → Option (List ℕ) → Stand → Stand → Option (List ℕ) → Option (List ℕ) → Ending → Type 0
+MakesUp known folder given old new told_old told_new end =
+    (handed : Option (List ℕ)) × HandsAllMissing known folder old.desk.entries told_old handed × Serves given old new handed told_new end

@@ -15,13 +15,14 @@ use Rattle.mrp_master.specs.Supply.{supply_of}
 use Rattle.mrp_book.specs.History.{IsLegal, asked}
 use Rattle.mrp_script.specs.Opened.{IsAccepted, IsRefused}
 use Rattle.mrp_script.specs.Script.{script_of}
-use Rattle.mrp_words.specs.Folder.{AreParts, HasTooMuch, IsAt, Known}
+use Rattle.mrp_words.specs.Folder.{AreParts, HasTooMuch, IsAt, IsTooLongAt, Known}
 use Rattle.mrp_calls.specs.Desk.{Desk}
 use Rattle.mrp_commands.specs.Refusal.{TellsFault}
 use Rattle.mrp_commands.specs.declared.ending.Ending.{Ending}
 use Rattle.mrp_commands.specs.declared.ending.Ending.TheVariants as ending
 use Rattle.mrp_open.specs.Sum.{sum_text}
 use Rattle.mrp_open.specs.declared.finding.Found.{Found}
+use Rattle.mrp_open.specs.declared.start.TheConstants.{MOST_SUM}
 
 -- the tables beside the script, and the bytes of the script's file, none where there is no such file
 pub record IsSplit (parts others : List Part) (script : List ℕ) : Type 0 where
@@ -99,11 +100,16 @@ TakesNoMore tables takes end = ((takes ≡ false) × TellsFault (columns_fault t
 abbrev pub sum_path : List ℕ → List ℕ
 sum_path folder = path_join folder (codes "desk.tables")
 
--- the file of the sum has another text, and there are records; or it can't be read, or there was no memory
+-- the file of the sum has another text, and there are records; or it can't be read, or has more bytes than are read, or
+-- there was no memory
 abbrev pub HasOtherSum : Known → List ℕ → ℕ → List ℕ → Ending → Type 0
 HasOtherSum known folder records sum end =
     ((end ≡ ending.TablesChanged) × (0 < records) × ((text : List ℕ) × IsAt known (sum_path folder) (Some text) × (text ≢ sum)))
-    ⊎ ((end ≡ ending.Read) ⊎ (end ≡ ending.NoMemory))
+    ⊎ (((end ≡ ending.Read) × IsTooLongAt known (sum_path folder) MOST_SUM) ⊎ (end ≡ ending.NoMemory))
+
+-- the records are answered from the tables that they were answered from: there are none, or no sum, or the tables' own
+abbrev pub AreUnchanged : Known → List ℕ → ℕ → List ℕ → Type 0
+AreUnchanged known folder records sum = (records ≡ 0) ⊎ (IsAt known (sum_path folder) None ⊎ IsAt known (sum_path folder) (Some sum))
 
 -- the record that half a line would have been that is cut off: 0 for the header; none if nothing is
 abbrev pub cut_number : List ℕ → List ℕ → ℕ → Option ℕ

@@ -1,6 +1,6 @@
 //! The batches of an order desk.
 
-ghost use Rattle.std.specs.Prelude.{◌≡◌, ◌⊎◌, ℕ, List, Err, None, Option, Some, IfErr, IfSome, MatchOption, OnErr, OnOk};
+ghost use Rattle.std.specs.Prelude.{◌≡◌, ◌⊎◌, ℕ, Bool, true, List, Err, None, Option, Some, IfErr, IfSome, MatchOption, OnErr, OnOk};
 ghost use Rattle.std.specs.List.{All};
 ghost use Rattle.mrp_rows.specs.Told.{failures_of, inner_of};
 ghost use Rattle.mrp_intake.specs.Lines.{told_lines};
@@ -31,6 +31,9 @@ pub trait RunTaker {
     /// The numbers of the runs that it was given or told of, in order, as far as that is known.
     ghost told: { Self → Option (List ℕ) };
 
+    /// It was told that no more runs come.
+    ghost closed: { Self → Bool };
+
     /// Takes a run.
     fn take(&mut self, run: Run)
         requires { takes run }
@@ -42,7 +45,8 @@ pub trait RunTaker {
 
     /// Is told that no more runs come.
     fn close(&mut self)
-        ensures { told self.new ≡ told self.old };
+        ensures told { told self.new ≡ told self.old }
+        ensures closed { closed self.new ≡ true };
 }
 
 // Hands over a run.

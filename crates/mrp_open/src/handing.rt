@@ -7,6 +7,7 @@ ghost use Rattle.mrp_open.specs.Made.{GivesNext, MakesAll, MakesRun};
 
 use crate::batches::RunTaker;
 use crate::notes::Notes;
+use crate::whole_lines::WholeLines;
 use crossbeam_channel::{Receiver, Sender};
 use mrp_folder::Folder;
 use mrp_rows::Told;
@@ -62,11 +63,13 @@ fn to_hand<K: RunKind>(run: Run) -> Given<K>
 }
 
 impl<'a, K: RunKind, R: Eprint + Wait> RunTaker for RunSender<'a, K, R> {
-    ghost use Rattle.std.specs.Prelude.{None};
+    ghost use Rattle.std.specs.Prelude.{None, is_none};
 
     ghost takes = { K.holds };
 
     ghost told = { λ _. None };
+
+    ghost closed = { λ sender. is_none sender.to };
 
     fn take(&mut self, run: Run) {
         let front = run.snapshot.front();
@@ -80,7 +83,7 @@ impl<'a, K: RunKind, R: Eprint + Wait> RunTaker for RunSender<'a, K, R> {
     }
 
     fn miss(&mut self, front: u64) {
-        let mut notes = Told::new(Notes { rt: self.rt });
+        let mut notes = Told::new(WholeLines::new(Notes { rt: self.rt }));
         let _ = tell_run(front, Note::Refused(Refusal::NoMemory), &mut notes);
     }
 
@@ -143,7 +146,7 @@ fn make_one<R: Alloc + Threads + Wait + Sync, D: Folder, N: Write>(
 )
     requires { ∥ IsRun maker.old run.now ∥₁ }
     ensures same { maker.new ≡ maker.old }
-    ensures made { MakesRun N.contents maker.old run.now (D.named files.old) (D.named files.new) notes.old notes.new }
+    ensures made { MakesRun D.Part N.contents maker.old run.now (D.failures files.old) (D.failures files.new) (D.named files.old) (D.named files.new) notes.old notes.new }
 {
     let made = maker.make(rt, alloc, run, files);
     match Note::of(&made) {
@@ -166,7 +169,7 @@ pub fn make_all<G: RunSource, R: Alloc + Threads + Wait + Sync, D: Folder, N: Wr
 )
     requires { (run : Run) → G.gives run → IsRun maker.old run }
     ensures same { maker.new ≡ maker.old }
-    ensures made { MakesAll N.contents maker.old (G.left from.old) (D.named files.old) (D.named files.new) notes.old notes.new }
+    ensures made { MakesAll D.Part N.contents maker.old (G.left from.old) (D.failures files.old) (D.failures files.new) (D.named files.old) (D.named files.new) notes.old notes.new }
 {
     for _ in rt.forever() {
         match from.next_run() {

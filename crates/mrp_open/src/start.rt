@@ -1,13 +1,14 @@
 //! The start of a desk, up to the first change of its folder.
 
-ghost use Rattle.std.specs.Prelude.{◌≡◌, ◌⊎◌, Some, None, true, false, IfErr, IfOk, IsTrue, OnOk, option_map};
+ghost use Rattle.std.specs.Prelude.{◌≡◌, ◌⊎◌, Err, Some, None, true, false, IfErr, IfOk, IsTrue, OnOk, option_map};
 ghost use Rattle.std.specs.Path.{path_buf_bytes};
 ghost use Rattle.mrp_rows.specs.declared.fault.Table.TheVariants as t;
+ghost use Rattle.mrp_rows.specs.declared.streams.ReadFault.TheVariants as read;
 ghost use Rattle.mrp_rows.specs.Next.{columns_fault};
-ghost use Rattle.mrp_words.specs.Folder.{IsAt};
+ghost use Rattle.mrp_words.specs.Folder.{IsAt, IsTooLongAt};
 ghost use Rattle.mrp_commands.specs.Refusal.{TellsFault};
 ghost use Rattle.mrp_commands.specs.declared.ending.Ending.TheVariants as ending;
-ghost use Rattle.mrp_open.specs.Start.{AnswersJournal, FailsToOpen, HasOtherSum, IsPrepared, TakesNoMore, TellsRefused, sum_path};
+ghost use Rattle.mrp_open.specs.Start.{AnswersJournal, AreUnchanged, FailsToOpen, HasOtherSum, IsPrepared, TakesNoMore, TellsRefused, sum_path};
 ghost use Rattle.mrp_script.specs.Opened.{IsAccepted};
 
 use crate::finding::{Found, find};
@@ -28,8 +29,8 @@ use std::thread::Threads;
 /// The name of the file that has the sum of the tables.
 pub const SUM_NAME: &str = "desk.tables";
 
-// The most bytes of a file of sums that are read.
-const MOST_SUM: usize = 4_096;
+/// The most bytes of a file of sums that are read.
+pub const MOST_SUM: usize = 4_096;
 
 /// What a folder has, and its shop. Nothing of the folder was changed.
 #[derive(Drop)]
@@ -140,7 +141,8 @@ fn read_sum<F: FileStore>(
     alloc: Global,
     folder: &str,
 ) -> Result<Option<Vec<u8>>, ReadFault>
-    ensures { IfOk result (λ file. IsAt (F.known files.now) (sum_path folder.now) (option_map (λ bytes. bytes.items) file)) }
+    ensures file { IfOk result (λ file. IsAt (F.known files.now) (sum_path folder.now) (option_map (λ bytes. bytes.items) file)) }
+    ensures past { result ≡ Err read.Read → IsTooLongAt (F.known files.now) (sum_path folder.now) MOST_SUM }
 {
     let path = sum_path(alloc, folder)?;
     files.read_file(alloc, path.as_str(), MOST_SUM)
@@ -158,6 +160,7 @@ pub fn is_sealed<F: FileStore>(
 ) -> Result<bool, Ending>
     ensures sealed { IfOk result (λ sealed. sealed ≡ true → IsAt (F.known files.now) (sum_path folder.now) (Some sum.now)) }
     ensures open { IfOk result (λ sealed. sealed ≡ false → (records ≡ 0) ⊎ IsAt (F.known files.now) (sum_path folder.now) None) }
+    ensures unchanged { OnOk result (AreUnchanged (F.known files.now) folder.now records sum.now) }
     ensures other { IfErr result (HasOtherSum (F.known files.now) folder.now records sum.now) }
 {
     if records == 0 {

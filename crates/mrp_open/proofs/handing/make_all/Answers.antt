@@ -17,18 +17,20 @@ make_one-requires g c = (
 pub loop-init : goal.loop-init
 loop-init g c = record {
   same = refl;
-  made = makes-none g.N.Write.contents c.args.maker.now (g.G.RunSource.left c.args.from.now) (g.D.Folder.named c.args.files.now) c.args.notes.now;
+  made = makes-none g.N.Write.contents g.row.D-Part.Denot c.args.maker.now (g.G.RunSource.left c.args.from.now) (g.D.Folder.failures c.args.files.now) (g.D.Folder.named c.args.files.now) c.args.notes.now;
 }
 
 pub loop-preserved : goal.loop-preserved
 loop-preserved g c = record {
   same = c.make_one.ensures.same ∙ c.loop.invariant.same;
-  made = makes-next g.N.Write.contents c.args.maker.now (g.G.RunSource.left c.args.from.now) (g.G.RunSource.left c.loop.from) (g.G.RunSource.left c.next_run.new.self) c.in-Some-next_run.run'
+  made = makes-next g.N.Write.contents g.row.D-Part.Denot c.args.maker.now (g.G.RunSource.left c.args.from.now) (g.G.RunSource.left c.loop.from) (g.G.RunSource.left c.next_run.new.self) c.in-Some-next_run.run'
+      (g.D.Folder.failures c.args.files.now) (g.D.Folder.failures c.loop.files) (g.D.Folder.failures c.make_one.new.files)
       (g.D.Folder.named c.args.files.now) (g.D.Folder.named c.loop.files) (g.D.Folder.named c.make_one.new.files) c.args.notes.now c.loop.notes c.make_one.new.notes c.loop.invariant.made c.in-Some-next_run.ensures.next
-      (subst (λ (t : Tables). MakesRun g.N.Write.contents t c.in-Some-next_run.run' (g.D.Folder.named c.loop.files) (g.D.Folder.named c.make_one.new.files) c.loop.notes c.make_one.new.notes) c.loop.invariant.same c.make_one.ensures.made);
+      (subst (λ (t : Tables). MakesRun g.row.D-Part.Denot g.N.Write.contents t c.in-Some-next_run.run' (g.D.Folder.failures c.loop.files) (g.D.Folder.failures c.make_one.new.files) (g.D.Folder.named c.loop.files) (g.D.Folder.named c.make_one.new.files) c.loop.notes c.make_one.new.notes) c.loop.invariant.same c.make_one.ensures.made);
 }
 
 pub returns-in-None-next_run-clause-made : goal.returns-in-None-next_run-clause-made
 returns-in-None-next_run-clause-made g c =
-    makes-all g.N.Write.contents c.args.maker.now (g.G.RunSource.left c.args.from.now) (g.G.RunSource.left c.loop.from) (g.G.RunSource.left c.next_run.new.self)
+    makes-all g.N.Write.contents g.row.D-Part.Denot c.args.maker.now (g.G.RunSource.left c.args.from.now) (g.G.RunSource.left c.loop.from) (g.G.RunSource.left c.next_run.new.self)
+    (g.D.Folder.failures c.args.files.now) (g.D.Folder.failures c.loop.files)
     (g.D.Folder.named c.args.files.now) (g.D.Folder.named c.loop.files) c.args.notes.now c.loop.notes c.loop.invariant.made c.in-None-next_run.ensures.next
