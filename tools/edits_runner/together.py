@@ -8,7 +8,7 @@ from .trial import Trial
 from .turns import as_tried, waits
 
 # So many edits are worth a check, and crates with fewer wait for others; so many are the most, unless one crate has more.
-TOGETHER, MOST_TOGETHER = 60, 130
+TOGETHER, MOST_TOGETHER = 50, 100
 
 
 def edits_now(crate, words, turn):
