@@ -21,6 +21,7 @@ mod loads;
 mod net_changes;
 mod notes;
 mod odd_streams;
+mod order_desks;
 mod pages;
 mod pegging;
 mod reports;

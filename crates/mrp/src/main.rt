@@ -2,10 +2,11 @@
 #![tactic(auto)]
 
 use mrp_main::run_words;
+use mrp_open::WholeLines;
 use mrp_rows::Told;
 use mrp_words::{Hint, QuietErrors, SeenInput, SeenOutput, Sights, begins_utf16, has_stray_word};
 use std::fs::File;
-use std::io::{ErrorKind, Read};
+use std::io::{ErrorKind, Read, Write};
 use std::path::Path;
 use std::process::ExitCode;
 use std::rt::{Env, Files};
@@ -129,39 +130,51 @@ fn say_hints(rt: &(impl Files + AllocGlobal + Eprint), words: &[String], sights:
     }
 }
 
+// Says why nothing was begun.
+fn give_up(rt: &impl Eprint, status: u8) -> ExitCode {
+    let _ = rt.eprintln(if status == NO_MEMORY {
+        "no memory"
+    } else {
+        "error: a word is not UTF-8"
+    });
+    ExitCode::from(status)
+}
+
 fn main(rt: HostRuntime) -> ExitCode {
     let words = match words_of(&rt) {
         Ok(words) => words,
-        Err(NO_MEMORY) => {
-            let _ = rt.eprintln("no memory");
-            return ExitCode::from(NO_MEMORY);
-        }
-        Err(status) => {
-            let _ = rt.eprintln("error: a word is not UTF-8");
-            return ExitCode::from(status);
-        }
+        Err(status) => return give_up(&rt, status),
     };
     let sights = Sights::new();
     let input = SeenInput {
         inner: rt.stdin().lock(),
         sights: &sights,
     };
+    // A desk says how it ended even where nobody reads its answers any more.
+    let unseen = Sights::new();
     let output = SeenOutput {
         inner: io::writer(&rt),
-        sights: &sights,
+        sights: if begins_with(&words, "desk") {
+            &unseen
+        } else {
+            &sights
+        },
     };
+    // A line of up to 512 bytes is one write, so that nothing gets into it that another thread writes.
     let errors = QuietErrors {
         inner: rt.stderr(),
         sights: &sights,
     };
+    let mut errors = Told::new(WholeLines::new(errors));
     let status = run_words(
         &rt,
         rt.alloc(),
         &words,
         &mut Told::new(input),
         &mut Told::new(output),
-        &mut Told::new(errors),
+        &mut errors,
     );
+    let _ = errors.flush();
     if status != DONE {
         say_hints(&rt, &words, &sights);
     }

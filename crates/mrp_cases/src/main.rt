@@ -16,6 +16,7 @@ use mrp_audit::check;
 use mrp_main::run_words;
 use mrp_rows::Told;
 use std::alloc::Global;
+use std::fs::File;
 use std::io;
 use std::io::ErrorKind;
 use std::process::ExitCode;
@@ -34,12 +35,15 @@ fn text_of(bytes: Vec<u8>) -> io::Result<String> {
 }
 
 // How the program ends with these words and this input.
-fn ended(
-    rt: &(impl Alloc + Files + Threads + Wait + Sync),
+fn ended<R: AllocGlobal + Eprint + Files<File = File> + Threads + Wait + Sync>(
+    rt: &R,
     alloc: Global,
     words: &[&str],
     input: &[u8],
-) -> io::Result<Ending> {
+) -> io::Result<Ending>
+where
+    R::Dir: Send,
+{
     let mut input = Told::new(input);
     let mut output = Told::new(Vec::new(alloc));
     let mut errors = Told::new(Vec::new(alloc));
@@ -52,11 +56,14 @@ fn ended(
 }
 
 // How a command ends with a case: its bundle, or its folder of tables if it has no bundle.
-fn ended_by<R: Files + AllocGlobal + Threads + Wait + Sync>(
+fn ended_by<R: AllocGlobal + Eprint + Files<File = File> + Threads + Wait + Sync>(
     rt: &R,
     command: &str,
     name: &str,
-) -> io::Result<Ending> {
+) -> io::Result<Ending>
+where
+    R::Dir: Send,
+{
     if let Some(bundle) = bundle_of(rt, name)? {
         return ended(rt, rt.alloc(), &[command], &bundle);
     }
@@ -81,11 +88,14 @@ fn is_as_wanted<R: AllocGlobal + Print>(
 }
 
 // What a check says of a case's day against its bundle, or against its folder of tables if it has no bundle.
-fn said_of<R: Files + AllocGlobal + Threads + Wait + Sync>(
+fn said_of<R: AllocGlobal + Eprint + Files<File = File> + Threads + Wait + Sync>(
     rt: &R,
     name: &str,
     day: &str,
-) -> io::Result<String> {
+) -> io::Result<String>
+where
+    R::Dir: Send,
+{
     if let Some(bundle) = bundle_of(rt, name)? {
         return match check(rt, rt.alloc(), &bundle, day.as_bytes()) {
             Ok(()) => Ok(String::from_str(rt.alloc(), RIGHT)?),
@@ -98,11 +108,14 @@ fn said_of<R: Files + AllocGlobal + Threads + Wait + Sync>(
 }
 
 // Whether a case's day is found right, if it has one. If not, a line reports what was said of it.
-fn is_found_right<R: Files + AllocGlobal + Print + Threads + Wait + Sync>(
+fn is_found_right<R: AllocGlobal + Eprint + Files<File = File> + Print + Threads + Wait + Sync>(
     rt: &R,
     name: &str,
     wanted: &Ending,
-) -> io::Result<bool> {
+) -> io::Result<bool>
+where
+    R::Dir: Send,
+{
     if wanted.status > 0 {
         return Ok(true);
     }
@@ -125,10 +138,13 @@ enum Verdict {
 
 // Whether a case ends as it must, when planned and, if that can end in only one way, when made
 // live, and its day is found right.
-fn compare<R: Files + AllocGlobal + Print + Threads + Wait + Sync>(
+fn compare<R: AllocGlobal + Eprint + Files<File = File> + Print + Threads + Wait + Sync>(
     rt: &R,
     name: &str,
-) -> io::Result<Verdict> {
+) -> io::Result<Verdict>
+where
+    R::Dir: Send,
+{
     let Some(wanted) = wanted_of(rt, name)? else {
         println!(rt; "{name} is not as it must be; no day and no words stand beside it")?;
         return Ok(Verdict::Wrong);
@@ -149,11 +165,14 @@ fn compare<R: Files + AllocGlobal + Print + Threads + Wait + Sync>(
 }
 
 // How drawing a day ends, with the tables that it was planned from if it has a folder of them.
-fn drawn_by<R: Files + AllocGlobal + Threads + Wait + Sync>(
+fn drawn_by<R: AllocGlobal + Eprint + Files<File = File> + Threads + Wait + Sync>(
     rt: &R,
     name: &str,
     day: &[u8],
-) -> io::Result<Ending> {
+) -> io::Result<Ending>
+where
+    R::Dir: Send,
+{
     if !has_tables(rt, name)? {
         return ended(rt, rt.alloc(), &["page", "--title", name], day);
     }
@@ -163,10 +182,13 @@ fn drawn_by<R: Files + AllocGlobal + Threads + Wait + Sync>(
 }
 
 // Whether the page of a day is the expected one.
-fn is_drawn_right<R: Files + AllocGlobal + Print + Threads + Wait + Sync>(
+fn is_drawn_right<R: AllocGlobal + Eprint + Files<File = File> + Print + Threads + Wait + Sync>(
     rt: &R,
     name: &str,
-) -> io::Result<bool> {
+) -> io::Result<bool>
+where
+    R::Dir: Send,
+{
     let Some(wanted) = wanted_page(rt, name)? else {
         println!(rt; "{name} is not as it must be; no page stands beside it")?;
         return Ok(false);
@@ -177,10 +199,13 @@ fn is_drawn_right<R: Files + AllocGlobal + Print + Threads + Wait + Sync>(
 }
 
 // How many of the pages are not as they must be.
-fn count_wrong_pages<R: Files + AllocGlobal + Print + Threads + Wait + Sync>(
+fn count_wrong_pages<R: AllocGlobal + Eprint + Files<File = File> + Print + Threads + Wait + Sync>(
     rt: &R,
     names: &[String],
-) -> io::Result<usize> {
+) -> io::Result<usize>
+where
+    R::Dir: Send,
+{
     let mut wrong = 0usize;
     for name in names {
         let is_right = match is_drawn_right(rt, name) {
@@ -198,10 +223,13 @@ fn count_wrong_pages<R: Files + AllocGlobal + Print + Threads + Wait + Sync>(
 }
 
 // How many of the cases do not end as they must, and how many were also made live.
-fn count_verdicts<R: Files + AllocGlobal + Print + Threads + Wait + Sync>(
+fn count_verdicts<R: AllocGlobal + Eprint + Files<File = File> + Print + Threads + Wait + Sync>(
     rt: &R,
     cases: &[String],
-) -> io::Result<(usize, usize)> {
+) -> io::Result<(usize, usize)>
+where
+    R::Dir: Send,
+{
     let mut wrong = 0usize;
     let mut live = 0usize;
     for name in cases {
@@ -223,9 +251,12 @@ fn count_verdicts<R: Files + AllocGlobal + Print + Threads + Wait + Sync>(
 
 // Whether there are cases in the folder, each case and each page is as it must be, and each day, refusal
 // and page belongs to one.
-fn are_right<R: Files + AllocGlobal + Print + Threads + Wait + Sync + Clone + Drop>(
-    rt: &R,
-) -> io::Result<bool> {
+fn are_right<
+    R: AllocGlobal + Eprint + Files<File = File> + Print + Threads + Wait + Sync + Clone + Drop,
+>(rt: &R) -> io::Result<bool>
+where
+    R::Dir: Send,
+{
     let Folder {
         cases,
         drawn,

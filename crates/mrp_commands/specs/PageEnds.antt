@@ -23,7 +23,7 @@ use Rattle.mrp_page.specs.declared.fault.PageFault.{PageFault}
 use Rattle.mrp_page.specs.declared.fault.PageFault.TheVariants as fault
 use Rattle.mrp_words.specs.declared.page_words.PageWords.{PageWords}
 use Rattle.mrp_commands.specs.declared.ending.Ending.{Ending}
-use Rattle.mrp_commands.specs.declared.ending.Ending.TheVariants.{Done, LeftBehind, Refused, TooLarge, WrongShape, Wrong, NoRun, NoStart, Usage, NoMemory, Read, Write, WrongTables}
+use Rattle.mrp_commands.specs.declared.ending.Ending.TheVariants.{Done, InUse, LeftBehind, Refused, TablesChanged, TooLarge, WrongShape, Wrong, NoRun, NoStart, Usage, NoMemory, Read, Write, WrongTables}
 
 -- the names of a line; none if there is no line
 abbrev pub names_in : Option (List ℕ) → List (List ℕ)
@@ -66,6 +66,8 @@ PageEnds words tables remaining contents input read output written (Refused text
 PageEnds words tables remaining contents input read output written (TooLarge name) = ⊥
 PageEnds words tables remaining contents input read output written (Usage text) = ⊥
 PageEnds words tables remaining contents input read output written Wrong = ⊥
+PageEnds words tables remaining contents input read output written InUse = ⊥
+PageEnds words tables remaining contents input read output written TablesChanged = ⊥
 PageEnds words tables remaining contents input read output written (LeftBehind text) = ⊥
 PageEnds words tables remaining contents input read output written (NoStart range) = ⊥
 

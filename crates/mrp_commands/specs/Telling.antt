@@ -5,7 +5,7 @@ use Rattle.mrp_rows.specs.declared.streams.TheConstants.{WRITE_TRIES}
 use Rattle.mrp_report.specs.Taken.{HasTakenAll}
 use Rattle.mrp_report.specs.Written.{HasGivenUp, HasTakenFront}
 use Rattle.mrp_commands.specs.declared.ending.Ending.{Ending}
-use Rattle.mrp_commands.specs.declared.ending.Ending.TheVariants.{Done, LeftBehind, Refused, TooLarge, WrongShape, Wrong, NoRun, NoStart, Usage, NoMemory, Read, Write, WrongTables}
+use Rattle.mrp_commands.specs.declared.ending.Ending.TheVariants.{Done, InUse, LeftBehind, Refused, TablesChanged, TooLarge, WrongShape, Wrong, NoRun, NoStart, Usage, NoMemory, Read, Write, WrongTables}
 
 -- what is written to the error stream for an ending
 abbrev pub words_of : Ending → List ℕ
@@ -15,6 +15,8 @@ words_of (Refused text) = codes "refused: " ++ string_bytes text ++ 10 ∷ []
 words_of (TooLarge name) = codes "too large: " ++ name ++ 10 ∷ []
 words_of WrongShape = codes "wrong: shape" ++ 10 ∷ []
 words_of WrongTables = codes "wrong: tables" ++ 10 ∷ []
+words_of InUse = codes "in use" ++ 10 ∷ []
+words_of TablesChanged = codes "tables changed" ++ 10 ∷ []
 words_of Wrong = []
 words_of NoRun = codes "no such run" ++ 10 ∷ []
 words_of (NoStart range) = codes "no such start: expected a Monday from " ++ string_bytes range ++ 10 ∷ []

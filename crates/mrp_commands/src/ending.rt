@@ -27,6 +27,10 @@ pub enum Ending {
     WrongShape,
     /// The tables cannot be those of the day.
     WrongTables,
+    /// Another order desk is open on the folder.
+    InUse,
+    /// The tables are others than those that the calls of the journal were answered from.
+    TablesChanged,
     /// The day that was checked is wrong, or tables that were inspected have faults; the output says how.
     Wrong,
     /// The day has fewer runs than the number asked for.
@@ -133,11 +137,12 @@ impl Ending {
             Ending::Done | Ending::LeftBehind(_) => Status::Done,
             Ending::Refused(_) | Ending::TooLarge(_) => Status::Refused,
             Ending::WrongShape | Ending::WrongTables | Ending::Wrong => Status::Refused,
+            Ending::TablesChanged => Status::Refused,
             Ending::NoRun => Status::Usage,
             Ending::NoStart(_) => Status::Usage,
             Ending::Usage(_) => Status::Usage,
             Ending::NoMemory => Status::NoMemory,
-            Ending::Read | Ending::Write => Status::Stream,
+            Ending::InUse | Ending::Read | Ending::Write => Status::Stream,
         }
     }
 
@@ -157,6 +162,8 @@ impl Ending {
             Ending::TooLarge(name) => write_line(errors, b"too large: ", name.as_bytes()),
             Ending::WrongShape => write_line(errors, b"wrong: shape", b""),
             Ending::WrongTables => write_line(errors, b"wrong: tables", b""),
+            Ending::InUse => write_line(errors, b"in use", b""),
+            Ending::TablesChanged => write_line(errors, b"tables changed", b""),
             Ending::NoRun => write_line(errors, b"no such run", b""),
             Ending::NoStart(range) => write_line(
                 errors,

@@ -5,13 +5,14 @@
 pub enum Status {
     /// The command succeeded.
     Done,
-    /// The bundle was refused, or its plan gets too large; or a text is no day, or not a right one.
+    /// The bundle was refused, or its plan gets too large; a text is no day, or not a right one; or a journal's other tables
+    /// have changed.
     Refused,
     /// The words were wrong.
     Usage,
     /// Out of memory.
     NoMemory,
-    /// The input or the output failed.
+    /// The input or the output failed, or another desk is open on the folder.
     Stream,
 }
 

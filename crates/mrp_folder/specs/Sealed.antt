@@ -1,5 +1,5 @@
 -- What contracts see of a journal that is sealed: its own parts, and that a text is there (profile).
-use Rattle.std.specs.Prelude.{ℕ, ◌≡◌, ◌+◌, Bool, List, Option}
+use Rattle.std.specs.Prelude.{ℕ, ◌≡◌, Bool, List, Option}
 use Rattle.mrp_folder.specs.declared.sealing.SealedJournal.{SealedJournal}
 use Rattle.mrp_folder.specs.Kept.{Adds}
 use Rattle.mrp_folder.specs.Named.{Named}
@@ -32,3 +32,14 @@ failures_of_sealed sealed = sealed.failures
 pub record IsThere (text name : List ℕ) (old new lasting : Option (List Named)) : Type 0 where
   pub added : Adds name text old new
   pub lasts : lasting ≡ new
+
+-- a sealed journal has the same text under the same name
+pub record KeepsText {S D : Type 0} (old new : SealedJournal S D) : Type 0 where
+  pub text : text_of new ≡ text_of old
+  pub name : name_of new ≡ name_of old
+
+-- nothing has changed but the journal itself
+pub record KeepsSeal {S D : Type 0} (old new : SealedJournal S D) : Type 0 where
+  pub text : KeepsText old new
+  pub folder : folder_of new ≡ folder_of old
+  pub sealed : has_seal new ≡ has_seal old

@@ -1,7 +1,7 @@
 //! A folder of the operating system.
 
 ghost use Rattle.std.specs.Prelude.{◌≡◌, None};
-ghost use Rattle.mrp_folder.specs.Disk.{failures_told};
+ghost use Rattle.mrp_folder.specs.Disk.{failures_told, part_of, path_of};
 ghost use Rattle.mrp_folder.specs.Named.{TellsFailure};
 
 use crate::folder::Folder;
@@ -73,7 +73,9 @@ fn sync_names<R: Files>(files: &R, folder: &str) -> io::Result<()> {
 impl<'a, R> DiskFolder<'a, R> {
     /// A folder of which no call failed yet.
     pub fn new(files: &'a R, alloc: Global, folder: &'a str, part: &'a str) -> DiskFolder<'a, R>
-        ensures { failures_told result ≡ 0 }
+        ensures path { path_of result ≡ folder.now }
+        ensures part { part_of result ≡ part.now }
+        ensures failures { failures_told result ≡ 0 }
     {
         DiskFolder {
             files,

@@ -19,9 +19,9 @@ pub struct SealedJournal<'a, S, D> {
 }
 
 impl<'a, S: Store, D: Folder> SealedJournal<'a, S, D> {
-    ghost use Rattle.std.specs.Prelude.{◌≡◌, ◌≢◌, true, OnOk};
+    ghost use Rattle.std.specs.Prelude.{◌≡◌, ◌≢◌, true, OnErr, OnOk};
     ghost use Rattle.mrp_folder.specs.Named.{TellsFailure};
-    ghost use Rattle.mrp_folder.specs.Sealed.{IsThere, failures_of_sealed, folder_of, has_seal, journal_of, name_of, text_of};
+    ghost use Rattle.mrp_folder.specs.Sealed.{IsThere, KeepsText, failures_of_sealed, folder_of, has_seal, journal_of, name_of, text_of};
 
     /// A journal, and the text that is to be in the folder under a name, where it is not there yet.
     pub fn new(
@@ -58,8 +58,7 @@ impl<'a, S: Store, D: Folder> SealedJournal<'a, S, D> {
     fn put(&mut self) -> Result<(), WriteFault>
         ensures journal { journal_of self.new ≡ journal_of self.old }
         ensures sealed { has_seal self.new ≡ has_seal self.old }
-        ensures text { text_of self.new ≡ text_of self.old }
-        ensures name { name_of self.new ≡ name_of self.old }
+        ensures text { KeepsText self.old self.new }
         ensures there { OnOk result (IsThere (text_of self.old) (name_of self.old) (D.named (folder_of self.old)) (D.named (folder_of self.new)) (D.lasting (folder_of self.new))) }
         ensures failures { failures_of_sealed self.new ≡ failures_of_sealed self.old }
     {
@@ -72,7 +71,9 @@ impl<'a, S: Store, D: Folder> SealedJournal<'a, S, D> {
     // Puts the text into the folder, if it is not there yet.
     fn seal(&mut self) -> Result<(), WriteFault>
         ensures journal { journal_of self.new ≡ journal_of self.old }
+        ensures text { KeepsText self.old self.new }
         ensures sealed { OnOk result (has_seal self.new ≡ true) }
+        ensures unsealed { OnErr result (has_seal self.new ≢ true) }
         ensures there { OnOk result (has_seal self.old ≢ true → IsThere (text_of self.old) (name_of self.old) (D.named (folder_of self.old)) (D.named (folder_of self.new)) (D.lasting (folder_of self.new))) }
         ensures told { TellsFailure (failures_of_sealed self.old) (failures_of_sealed self.new) result }
     {
@@ -93,9 +94,9 @@ impl<'a, S: Store, D: Folder> SealedJournal<'a, S, D> {
 }
 
 impl<'a, S: Store, D: Folder> Store for SealedJournal<'a, S, D> {
-    ghost use Rattle.std.specs.Prelude.{◌≡◌, ◌⊎◌, ◌+◌, true, OnErr, OnOk, option_map};
-    ghost use Rattle.mrp_journal.specs.Held.{AppendsFront, TellsFailure, appended};
-    ghost use Rattle.mrp_folder.specs.Sealed.{IsThere, failures_of_sealed, folder_of, has_seal, journal_of, name_of, text_of};
+    ghost use Rattle.std.specs.Prelude.{◌≡◌, ◌⊎◌, ◌+◌, true, ◌≤◌, IfSome, OnErr, OnOk, length, option_map};
+    ghost use Rattle.mrp_journal.specs.Held.{AppendsFront, TellsFailure, appended, cut_to, half_cut, synced};
+    ghost use Rattle.mrp_folder.specs.Sealed.{IsThere, KeepsSeal, KeepsText, failures_of_sealed, folder_of, has_seal, journal_of, name_of, text_of};
 
     ghost held = { λ sealed. S.held (journal_of sealed) };
 
@@ -106,20 +107,36 @@ impl<'a, S: Store, D: Folder> Store for SealedJournal<'a, S, D> {
         ensures front { OnErr result (AppendsFront bytes.now (S.held (journal_of self.old)) (S.held (journal_of self.new))) }
         ensures told { TellsFailure (failures_of_sealed self.old + S.failures (journal_of self.old)) (failures_of_sealed self.new + S.failures (journal_of self.new)) result }
         ensures once { OnOk result (has_seal self.new ≡ true) }
+        ensures text { KeepsText self.old self.new }
 
         // Nothing is appended before the text is there, durable with its name.
         ensures sealed { (has_seal self.old ≡ true) ⊎ (S.held (journal_of self.new) ≡ S.held (journal_of self.old))
+            ⊎ IsThere (text_of self.old) (name_of self.old) (D.named (folder_of self.old)) (D.named (folder_of self.new)) (D.lasting (folder_of self.new)) }
+
+        // It is taken for there only where it was, or is.
+        ensures known { has_seal self.new ≡ true → (has_seal self.old ≡ true)
             ⊎ IsThere (text_of self.old) (name_of self.old) (D.named (folder_of self.old)) (D.named (folder_of self.new)) (D.lasting (folder_of self.new)) }
     {
         self.seal()?;
         self.journal.append(bytes)
     }
 
-    fn sync(&mut self) -> Result<(), WriteFault> {
+    fn sync(&mut self) -> Result<(), WriteFault>
+        ensures synced { OnOk result (S.held (journal_of self.new) ≡ option_map synced (S.held (journal_of self.old))) }
+        ensures same { OnErr result (S.held (journal_of self.new) ≡ S.held (journal_of self.old)) }
+        ensures told { TellsFailure (failures_of_sealed self.old + S.failures (journal_of self.old)) (failures_of_sealed self.new + S.failures (journal_of self.new)) result }
+        ensures seal { KeepsSeal self.old self.new }
+    {
         self.journal.sync()
     }
 
-    fn cut(&mut self, count: usize) -> Result<(), WriteFault> {
+    fn cut(&mut self, count: usize) -> Result<(), WriteFault>
+        requires { IfSome (S.held (journal_of self.old)) (λ old. count ≤ length old.bytes) }
+        ensures cut { OnOk result (S.held (journal_of self.new) ≡ option_map (cut_to count) (S.held (journal_of self.old))) }
+        ensures half { OnErr result (S.held (journal_of self.new) ≡ option_map (half_cut count) (S.held (journal_of self.old))) }
+        ensures told { TellsFailure (failures_of_sealed self.old + S.failures (journal_of self.old)) (failures_of_sealed self.new + S.failures (journal_of self.new)) result }
+        ensures seal { KeepsSeal self.old self.new }
+    {
         self.journal.cut(count)
     }
 }

@@ -1,5 +1,5 @@
 -- The lines of an input that comes in pieces.
-use Rattle.std.proofs.Common.{◌≡◌, ◌<◌, ◌+◌, ℕ, zero, suc, Bool, true, false, List, [], ◌∷◌, ◌++◌, length, map, take, drop, Option, Some, None, refl, sym, ap, ◌∙◌, append_assoc, add-one, arith}
+use Rattle.std.proofs.Common.{◌≡◌, ◌≢◌, ◌<◌, ◌+◌, ℕ, zero, suc, Bool, true, false, List, [], ◌∷◌, ◌++◌, length, map, take, drop, Option, Some, None, refl, sym, ap, ◌∙◌, append_assoc, add-one, arith}
 use Rattle.std.specs.Prelude.{◌||◌, ◌==◌, slice_index}
 use Rattle.std.specs.List.{list_any, onto_first}
 use Rattle.std.proofs.lemmas.Bool.{eqb-true}
@@ -8,7 +8,8 @@ use Rattle.std.proofs.lemmas.List.Folds.{list_any-append}
 use Rattle.memchr.specs.Find.{IsLastByte, NoneAfter, NoneBefore, Nowhere, Passes, is_byte}
 use Rattle.std.specs.Prelude.{⊤}
 use Rattle.std.specs.Io.KnownBytes.{Consumes, IsAtEnd, Keeps}
-use Rattle.mrp_intake.specs.Intake.{BringsKnown, IsEnded, IsInLine, Taken}
+use Rattle.std.proofs.KnownBytes.{Consumes-kept, Consumes-nil, Consumes-trans}
+use Rattle.mrp_intake.specs.Intake.{BringsKnown, IsEnded, IsInLine, ReadsOn, Taken}
 use Rattle.mrp_intake.specs.Lines.{lines_of, told_lines, told_of}
 
 -- a byte that ends no line goes onto the first line
@@ -236,3 +237,23 @@ to-come-end old new more (Some xs) (Some ys) (Some zs) t k e is =
     let last : told_lines (old.begun ++ xs) ≡ told_lines more ++ told_lines [] = t ∙ ap (λ l. told_lines (more ++ l)) none ∙ ap told_lines (append-nil more) ∙ sym (ap (λ (ls : List (List ℕ)). told_lines more ++ map told_of ls) lines-none ∙ append-nil (told_lines more)) in
     let rest : told_lines [] ≡ told_lines ([] ++ zs) = ap told_lines (sym e) in
     last ∙ ap (λ (ls : List (List ℕ)). told_lines more ++ ls) rest ∙ sym (ap (λ (n : Taken). told_lines n.batch ++ told_lines (n.begun ++ zs)) is)
+
+-- no read gave anything yet
+pub reads-none : (o : Option (List ℕ)) → ReadsOn o o
+reads-none o = ([], Consumes-nil o, refl)
+
+-- one more gave no line feed
+pub reads-more : (first now next : Option (List ℕ)) (given : List ℕ) → ReadsOn first now → Consumes now next given → IsInLine given → ReadsOn first next
+reads-more first now next given r k e = (r.0 ++ given, Consumes-trans first now next r.0 given r.1 k, in-append r.0 given r.2 e)
+
+-- one more was interrupted
+pub reads-kept : (first now next : Option (List ℕ)) → ReadsOn first now → Keeps now next → ReadsOn first next
+reads-kept first now next r k = (r.0, Consumes-kept first now next r.0 r.1 k, r.2)
+
+-- a text that ends as a line does is not empty
+pub ended-some : (xs : List ℕ) → IsEnded xs → xs ≢ []
+ended-some xs ended = by ended.front ended.is
+  where
+    by : (front : List ℕ) → xs ≡ front ++ 10 ∷ [] → xs ≢ []
+    by [] is = λ none. let e : 10 ∷ [] ≡ [] = sym is ∙ none in cc
+    by (x ∷ front) is = λ none. let e : x ∷ (front ++ 10 ∷ []) ≡ [] = sym is ∙ none in cc

@@ -1,8 +1,9 @@
 -- What an intake holds, and what a batch is (profile).
-use Rattle.std.specs.Prelude.{ℕ, ◌≡◌, ◌⊎◌, ◌==◌, false, List, [], ◌∷◌, ◌++◌, Option, Some, None, ⊤}
+use Rattle.std.specs.Prelude.{ℕ, ◌≡◌, ◌≤◌, ◌⊎◌, ◌==◌, false, List, [], ◌∷◌, ◌++◌, length, Option, Some, None, ⊤}
 use Rattle.std.specs.List.{list_any}
-use Rattle.std.specs.Io.KnownBytes.{IsAtEnd}
+use Rattle.std.specs.Io.KnownBytes.{Consumes, IsAtEnd}
 use Rattle.mrp_intake.specs.Lines.{told_lines}
+use Rattle.mrp_intake.specs.declared.intake.TheConstants.{PIECE}
 
 -- the lines of a batch, and what was read of the next line
 pub record Taken : Type 0 where
@@ -31,3 +32,15 @@ BringsKnown old new (Some before) (Some after) = Brings old new before after
 -- a batch has whole lines, or it is what stands behind the last line feed of the input
 abbrev pub IsBatch : Taken → Option (List ℕ) → Type 0
 IsBatch new after = IsEnded new.batch ⊎ ((new.begun ≡ []) × IsAtEnd after)
+
+-- reads gave no line feed
+abbrev pub ReadsOn : Option (List ℕ) → Option (List ℕ) → Type 0
+ReadsOn before after = (begun : List ℕ) × Consumes before after begun × IsInLine begun
+
+-- a batch is what one read completed: the reads in front of it gave no line feed, and none follows
+pub record IsOneRead (before after : Option (List ℕ)) : Type 0 where
+  pub between : Option (List ℕ)
+  pub waits : ReadsOn before between
+  pub last : List ℕ
+  pub brings : Consumes between after last
+  pub within : length last ≤ PIECE

@@ -27,11 +27,11 @@ impl Model for Intake {
 }
 
 impl Intake {
-    ghost use Rattle.std.specs.Prelude.{◌≡◌, ◌≤◌, ◌⊎◌, [], OnOk, false, true};
+    ghost use Rattle.std.specs.Prelude.{◌≡◌, ◌≢◌, ◌≤◌, ◌⊎◌, [], OnOk, false, true};
     ghost use Rattle.std.specs.Io.KnownBytes.{IsAtEnd};
     ghost use Rattle.mrp_rows.specs.declared.streams.TheConstants.{READ_CALLS};
     ghost use Rattle.mrp_rows.specs.Told.{HasRisenBy, calls_of, failures_of, greatest_count, inner_of, interrupted_of};
-    ghost use Rattle.mrp_intake.specs.Intake.{BringsKnown, IsBatch};
+    ghost use Rattle.mrp_intake.specs.Intake.{BringsKnown, IsBatch, IsOneRead};
 
     /// An intake of which nothing was read yet.
     pub fn new(alloc: Global) -> Intake
@@ -56,18 +56,22 @@ impl Intake {
         requires { self.old.batch ≡ [] }
         ensures last { OnOk result (self.new ≡ record { batch = self.old.begun; begun = [] }) }
         ensures none { result ≡ Ok false → self.new.batch ≡ [] }
+        ensures some { result ≡ Ok true → self.new.batch ≢ [] }
     {
         self.batch.append(&mut self.begun)?;
         Ok(!self.batch.is_empty())
     }
 
-    /// Reads until lines are complete, which become the batch. False at the end of the input.
+    /// Reads until lines are complete, which become the batch: no read follows one that completed a line. False at the end
+    /// of the input.
     ///
     /// Errors: `Read` if the reader failed, or gave no whole line in 100,000,000 calls of `read`; `NoMemory` if an
     /// allocation failed. Then lines that were read may be lost.
     pub fn next_batch<R: Read>(&mut self, reader: &mut Told<R>) -> Result<bool, ReadFault>
         ensures brings { OnOk result (BringsKnown self.old self.new (R.remaining (inner_of reader.old)) (R.remaining (inner_of reader.new))) }
         ensures whole { result ≡ Ok true → IsBatch self.new (R.remaining (inner_of reader.new)) }
+        ensures some { result ≡ Ok true → self.new.batch ≢ [] }
+        ensures one { result ≡ Ok true → IsOneRead (R.remaining (inner_of reader.old)) (R.remaining (inner_of reader.new)) }
         ensures end { result ≡ Ok false → (self.new.batch ≡ []) × (self.new.begun ≡ []) × IsAtEnd (R.remaining (inner_of reader.new)) }
         ensures failures { OnOk result (failures_of reader.new ≡ failures_of reader.old) }
         ensures refused { result ≡ Err ReadFault.Read → HasRisenBy 1 (failures_of reader.old) (failures_of reader.new)

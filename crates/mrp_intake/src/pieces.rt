@@ -66,6 +66,7 @@ pub(crate) fn take_piece(
     ensures within { IsInLine begun.new.items }
     ensures some { result ≡ Ok true → IsEnded batch.new.items }
     ensures none { result ≡ Ok false → batch.new.items ≡ [] }
+    ensures waits { result ≡ Ok false → IsInLine given.now }
 {
     let Some(at) = memrchr(b'\n', given) else {
         go_on(begun, given)?;

@@ -6,3 +6,4 @@ pub mod Bodies
 pub mod NextRecords
 pub mod RowsBehind
 pub mod SectionLines
+pub mod Beginnings

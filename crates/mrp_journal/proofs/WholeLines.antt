@@ -71,7 +71,7 @@ whole-journal journal lines e all =
     whole-append journal (concat lines) e ∙ ap (λ r. journal ++ r) (whole-all lines (recursion_from_All IsLine lines all))
 
 -- a line ends in a text exactly where one ends in its whole lines
-any-whole : (xs : List ℕ) → list_any ends_line (whole_lines xs) ≡ list_any ends_line xs
+pub any-whole : (xs : List ℕ) → list_any ends_line (whole_lines xs) ≡ list_any ends_line xs
 any-whole [] = rw (whole-none [] refl) refl
 any-whole (x ∷ xs) = by (list_any ends_line (x ∷ xs)) refl (any-whole xs)
   where

@@ -1,5 +1,8 @@
 -- A journal: what beginning it and settling a batch make of its file, and what a crash leaves meanwhile (profile).
-use Rattle.std.specs.Prelude.{ℕ, ◌≡◌, ◌⊎◌, ◌++◌, List}
+use Rattle.std.specs.Prelude.{ℕ, ◌≡◌, ◌⊎◌, ◌++◌, List, Option}
+use Rattle.std.specs.Io.KnownBytes.{Appends, Keeps}
+use Rattle.mrp_rows.specs.Told.{HasRisenBy, calls_of, inner_of}
+use Rattle.mrp_rows.specs.declared.told.Told.{Told}
 use Rattle.mrp_journal.specs.Held.{CanBeLeft, Held, IsFront, settled}
 use Rattle.mrp_journal.specs.Lines.{whole_lines}
 
@@ -30,3 +33,10 @@ with_more more held = settled (held.bytes ++ more)
 pub record KeepsSafely (more : List ℕ) (old new : Held) : Type 0 where
   pub keeps : (left : List ℕ) → CanBeLeft new left → IsFront old.bytes left
   pub no_more : (left : List ℕ) → CanBeLeft new left → IsFront left (old.bytes ++ more)
+
+-- a text was written to a stream, and then it was called once more and kept what was written, as a flush does
+pub record WritesThrough {W : Type 0} (contents : W → Option (List ℕ)) (old new : Told W) (text : List ℕ) : Type 0 where
+  pub written : Told W
+  pub appends : Appends (contents (inner_of old)) (contents (inner_of written)) text
+  pub keeps : Keeps (contents (inner_of written)) (contents (inner_of new))
+  pub called : HasRisenBy 1 (calls_of written) (calls_of new)

@@ -1,6 +1,7 @@
 //! A journal in a file of the operating system.
 
-ghost use Rattle.std.specs.Prelude.{◌≡◌, None};
+ghost use Rattle.std.specs.Prelude.{◌≡◌, None, OnOk, is_ok};
+ghost use Rattle.std.specs.Io.KnownBytes.{Appends};
 ghost use Rattle.mrp_journal.specs.File.{failures_told, file_of};
 ghost use Rattle.mrp_journal.specs.Held.{TellsFailure};
 
@@ -28,7 +29,9 @@ impl<F: Drop> JournalFile<F> {
 
     // Counts a call that failed.
     fn told(&mut self, outcome: io::Result<()>) -> Result<(), WriteFault>
-        ensures { TellsFailure (failures_told self.old) (failures_told self.new) result }
+        ensures told { TellsFailure (failures_told self.old) (failures_told self.new) result }
+        ensures outcome { is_ok result ≡ is_ok outcome }
+        ensures file { file_of self.new ≡ file_of self.old }
     {
         match outcome {
             Ok(()) => Ok(()),
@@ -51,7 +54,12 @@ impl<F: Write + OpenFile + Drop> Store for JournalFile<F> {
 
     ghost failures = { failures_told };
 
-    fn append(&mut self, bytes: &[u8]) -> Result<(), WriteFault> {
+    fn append(&mut self, bytes: &[u8]) -> Result<(), WriteFault>
+        ensures told { TellsFailure (failures_told self.old) (failures_told self.new) result }
+
+        // Where it is known what the file has, all of them are behind that.
+        ensures written { OnOk result (Appends (F.contents (file_of self.old)) (F.contents (file_of self.new)) bytes.now) }
+    {
         let outcome = self.file.write_all(bytes);
         self.told(outcome)
     }

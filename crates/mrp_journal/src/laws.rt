@@ -3,9 +3,10 @@
 ghost use Rattle.std.specs.Prelude.{◌≡◌, ◌≤◌, ◌++◌, ◌∷◌, [], ℕ, List, All, length, take};
 ghost use Rattle.std.specs.List.{concat};
 ghost use Rattle.mrp_journal.specs.Held.{IsFront};
+ghost use Rattle.mrp_journal.specs.Journal.{begun};
 ghost use Rattle.mrp_journal.specs.Lines.{IsLine, whole_lines};
 ghost use Rattle.mrp_journal.specs.Rows.{IsRow, IsTable, row};
-ghost use Rattle.mrp_journal.specs.Table.{table_records};
+ghost use Rattle.mrp_journal.specs.Table.{TakesRecords, header_for, table_records};
 
 /// The whole lines of a text.
 pub fn lines()
@@ -25,6 +26,12 @@ pub fn journals()
     ensures left { (journal left : List ℕ) (records : List (List ℕ)) → whole_lines journal ≡ journal → All IsLine records
         → IsFront journal left → IsFront left (journal ++ concat records)
         → (count : ℕ) × (count ≤ length records) × (whole_lines left ≡ journal ++ concat (take count records)) }
+{}
+
+/// A journal that has begun.
+pub fn beginnings()
+    // It is a table, if more records can be appended to it.
+    ensures { (bytes : List ℕ) → TakesRecords (begun bytes (header_for (whole_lines bytes))) → IsTable (begun bytes (header_for (whole_lines bytes))) }
 {}
 
 /// A journal with records, and a row of csv appended to it.

@@ -6,7 +6,7 @@ ghost use Rattle.mrp_rows.specs.Streams.{WritesFront};
 ghost use Rattle.mrp_rows.specs.Told.{HasRisenBy, calls_of, failures_of, inner_of, interrupted_of};
 ghost use Rattle.mrp_rows.specs.declared.streams.TheConstants.{WRITE_TRIES};
 ghost use Rattle.mrp_journal.specs.Held.{Becomes, IsSettled};
-ghost use Rattle.mrp_journal.specs.Journal.{KeepsSafely, with_more};
+ghost use Rattle.mrp_journal.specs.Journal.{KeepsSafely, WritesThrough, with_more};
 
 use crate::keeping::keep;
 use crate::store::Store;
@@ -41,6 +41,7 @@ fn answer<S: Store, W: Write>(
 ) -> Result<(), WriteFault>
     requires { IfSome (S.held _journal.now) IsSettled }
     ensures told { OnOk result (Appends (W.contents (inner_of out.old)) (W.contents (inner_of out.new)) answers.now) }
+    ensures flushed { OnOk result (WritesThrough W.contents out.old out.new answers.now) }
     ensures failures { OnOk result (failures_of out.new ≡ failures_of out.old) }
     ensures front { OnErr result (WritesFront (W.contents (inner_of out.old)) (W.contents (inner_of out.new)) answers.now) }
     ensures refused { OnErr result (HasRisenBy 1 (failures_of out.old) (failures_of out.new)
@@ -64,6 +65,7 @@ pub fn settle<S: Store, W: Write>(
     ensures kept { OnOk result (S.held journal.new ≡ option_map (with_more records.now) (S.held journal.old)) }
     ensures sound { OnOk result (S.failures journal.new ≡ S.failures journal.old) }
     ensures told { OnOk result (Appends (W.contents (inner_of out.old)) (W.contents (inner_of out.new)) answers.now) }
+    ensures flushed { OnOk result (WritesThrough W.contents out.old out.new answers.now) }
     ensures failures { OnOk result (failures_of out.new ≡ failures_of out.old) }
     ensures front { OnErr result (WritesFront (W.contents (inner_of out.old)) (W.contents (inner_of out.new)) answers.now) }
 

@@ -12,7 +12,7 @@ use Rattle.mrp_engine.specs.declared.day.fault.DayFault.TheVariants as fault
 use Rattle.mrp_engine.specs.day.Run.{HasNotFailed, HasPassedLimits, IsAfterReading, IsReadWithin, MakesDay, WritesDay}
 use Rattle.mrp_words.specs.declared.day.DayCommand.{DayCommand}
 use Rattle.mrp_commands.specs.declared.ending.Ending.{Ending}
-use Rattle.mrp_commands.specs.declared.ending.Ending.TheVariants.{Done, LeftBehind, Refused, TooLarge, WrongShape, Wrong, NoRun, NoStart, Usage, NoMemory, Read, Write, WrongTables}
+use Rattle.mrp_commands.specs.declared.ending.Ending.TheVariants.{Done, InUse, LeftBehind, Refused, TablesChanged, TooLarge, WrongShape, Wrong, NoRun, NoStart, Usage, NoMemory, Read, Write, WrongTables}
 use Rattle.mrp_main.specs.Ends.{BundleEnds, DayEnds, DayWrites, HasReadAll, IsEndOf, answering}
 use Rattle.mrp_commands.specs.Refusal.{TellsFault, end_of_read}
 
@@ -30,6 +30,8 @@ module _ {W : Type 0} (command : DayCommand) (contents : W → Option (List ℕ)
   refused-writes f (TooLarge name) day is = absurd is
   refused-writes f WrongShape day is = absurd is
   refused-writes f WrongTables day is = absurd is
+  refused-writes f InUse day is = absurd is
+  refused-writes f TablesChanged day is = absurd is
   refused-writes f Wrong day is = absurd is
   refused-writes f NoRun day is = absurd is
   refused-writes f (LeftBehind text) day is = absurd is

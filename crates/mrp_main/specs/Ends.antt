@@ -21,13 +21,13 @@ use Rattle.mrp_engine.specs.day.Run.{HasNotFailed, HasPassedLimits, IsRead, IsRe
 use Rattle.mrp_engine.specs.declared.day.fault.DayFault.{DayFault}
 use Rattle.mrp_engine.specs.declared.day.fault.DayFault.TheVariants as fault
 use Rattle.mrp_words.specs.declared.command.Request.{Request}
-use Rattle.mrp_words.specs.declared.command.Request.TheVariants.{Carry, Check, Day, Inspect, Page}
+use Rattle.mrp_words.specs.declared.command.Request.TheVariants.{Carry, Check, Day, Desk, Inspect, Page}
 use Rattle.mrp_words.specs.declared.day.DayCommand.{DayCommand}
 use Rattle.mrp_words.specs.declared.day.DayCommand.TheVariants.{Plan, Live}
 use Rattle.mrp_words.specs.declared.command.NoRequest.{NoRequest}
 use Rattle.mrp_words.specs.declared.command.NoRequest.TheVariants as none
 use Rattle.mrp_commands.specs.declared.ending.Ending.{Ending}
-use Rattle.mrp_commands.specs.declared.ending.Ending.TheVariants.{Done, LeftBehind, Refused, TooLarge, WrongShape, Wrong, NoRun, NoStart, Usage, NoMemory, Read, Write, WrongTables}
+use Rattle.mrp_commands.specs.declared.ending.Ending.TheVariants.{Done, InUse, LeftBehind, Refused, TablesChanged, TooLarge, WrongShape, Wrong, NoRun, NoStart, Usage, NoMemory, Read, Write, WrongTables}
 use Rattle.mrp_commands.specs.declared.status.Status.TheVariants as status
 use Rattle.mrp_commands.specs.Status.{code_of, status_of}
 use Rattle.mrp_commands.specs.Telling.{words_of}
@@ -38,6 +38,8 @@ use Rattle.mrp_commands.specs.CarryEnds.{CarryEndsBy}
 use Rattle.mrp_main.specs.CheckEnds.{CheckEnds}
 use Rattle.mrp_commands.specs.InspectEnds.{InspectEndsIn}
 use Rattle.mrp_words.specs.Words.{Asks}
+use Rattle.mrp_open.specs.Ends.{DeskEnds, IsTold}
+use Rattle.mrp_open.specs.Opening.{Opening, unopened}
 
 -- how a command answers the script: `plan` in row order, `live` desk by desk
 abbrev pub answering : DayCommand → Answering
@@ -61,6 +63,8 @@ DayWrites command contents given ended failed output written (Refused text) = Is
 DayWrites command contents given ended failed output written (TooLarge name) = IsTooLargeAt command given name × (written ≡ output)
 DayWrites command contents given ended failed output written WrongShape = ⊥
 DayWrites command contents given ended failed output written WrongTables = ⊥
+DayWrites command contents given ended failed output written InUse = ⊥
+DayWrites command contents given ended failed output written TablesChanged = ⊥
 DayWrites command contents given ended failed output written Wrong = ⊥
 DayWrites command contents given ended failed output written NoRun = ⊥
 DayWrites command contents given ended failed output written (LeftBehind text) = ⊥
@@ -82,6 +86,8 @@ HasReadAll (Refused text) = ⊤
 HasReadAll (TooLarge name) = ⊤
 HasReadAll WrongShape = ⊥
 HasReadAll WrongTables = ⊥
+HasReadAll InUse = ⊥
+HasReadAll TablesChanged = ⊥
 HasReadAll Wrong = ⊥
 HasReadAll NoRun = ⊥
 HasReadAll (LeftBehind text) = ⊥
@@ -114,7 +120,8 @@ pub record FolderEnds {W : Type 0} (command : DayCommand) (known : Known) (folde
   pub ends : BundleEnds command contents output written read end
 
 -- how a request ends: a day of a folder's files leaves the input as it was; a page and a check are of the day that the
--- input had left; carrying leaves the input as it was; words ask for no check without a folder
+-- input had left; carrying leaves the input as it was; words ask for no check and no order desk without a folder, and one
+-- on a folder ends as `IsDoneAs` says
 abbrev pub RequestEnds : Known → {R W : Type 0} → (R → Option (List ℕ)) → (W → Option (List ℕ)) → Told R → Told R → Told W → Told W → Request → Ending → Type 0
 RequestEnds known remaining contents input read output written (Day command workers None) end = DayEnds command remaining contents input read output written end
 RequestEnds known remaining contents input read output written (Day command workers (Some folder)) end = (read ≡ input) × FolderEnds command known (string_bytes folder) contents output written end
@@ -123,6 +130,7 @@ RequestEnds known remaining contents input read output written (Check (Some fold
 RequestEnds known remaining contents input read output written (Check None) end = (read ≡ input) × (written ≡ output) × (status_of end ≡ status.Usage)
 RequestEnds known remaining contents input read output written (Carry words) end = (read ≡ input) × CarryEndsBy known words contents output written end
 RequestEnds known remaining contents input read output written (Inspect folder) end = (read ≡ input) × InspectEndsIn known (option_map string_bytes folder) contents output written end
+RequestEnds known remaining contents input read output written (Desk workers folder) end = (read ≡ input) × (written ≡ output) × (status_of end ≡ status.Usage)
 
 -- how help ends: it was written, or a prefix of it
 abbrev pub HelpEnds : {W : Type 0} → (W → Option (List ℕ)) → Told W → Told W → List ℕ → Ending → Type 0
@@ -138,6 +146,14 @@ Ends known remaining contents input read output written (Err (none.Help text)) e
 Ends known remaining contents input read output written (Err (none.Usage text)) end = (read ≡ input) × (written ≡ output) × (end ≡ Usage text)
 Ends known remaining contents input read output written (Err none.NoMemory) end = (read ≡ input) × (written ≡ output) × (end ≡ NoMemory)
 
+-- how a command is done, by what its words ask for: an order desk on a folder ends as it says, and all else as above, and
+-- then its end and nothing else is told
+abbrev pub IsDoneAs : Known → {R W E : Type 0} → (R → Option (List ℕ)) → (W → Option (List ℕ)) → (E → Option (List ℕ)) → Told R → Told R → Told W → Told W → Told E → Told E → Result Request NoRequest → Ending → Type 0
+IsDoneAs known remaining contents heard input read output written errors told (Ok (Desk workers (Some folder))) end =
+    (opened : Opening) × DeskEnds unopened opened known (string_bytes folder) remaining contents heard input read output written errors told end
+IsDoneAs known remaining contents heard input read output written errors told asked end =
+    Ends known remaining contents input read output written asked end × IsTold heard errors told (words_of end)
+
 -- the end of a day that was not written whole
 abbrev pub IsEndOf : DayFault → Ending → Type 0
 IsEndOf (fault.Refused f) end = TellsFault f end
@@ -146,16 +162,11 @@ IsEndOf fault.Read end = end ≡ Read
 IsEndOf fault.Write end = end ≡ Write
 IsEndOf fault.NoMemory end = end ≡ NoMemory
 
--- a text was written to a stream: it took the text whole, or gave up with a prefix of it
-abbrev pub WasTold : {E : Type 0} → (E → Option (List ℕ)) → Told E → Told E → List ℕ → Type 0
-WasTold contents old new text = HasTakenAll contents old new text ⊎ (HasGivenUp old new WRITE_TRIES × HasTakenFront contents old new text)
-
 -- a command was done: what its words ask for, how it ended, with what status, and what was written about it
 pub record IsDone {R W E : Type 0} (remaining : R → Option (List ℕ)) (contents : W → Option (List ℕ)) (heard : E → Option (List ℕ)) (words : List (List ℕ))
     (input read : Told R) (output written : Told W) (errors told : Told E) (status : ℕ) : Type 0 where
   pub asked : Result Request NoRequest
   pub asks : Asks words asked
   pub end : Ending
-  pub ends : Ends nothing_known remaining contents input read output written asked end
+  pub done : IsDoneAs nothing_known remaining contents heard input read output written errors told asked end
   pub code : status ≡ code_of (status_of end)
-  pub says : WasTold heard errors told (words_of end)

@@ -2,16 +2,19 @@
 
 ghost use Rattle.std.specs.Prelude.{◌<◌, map};
 ghost use Rattle.std.specs.Result.{ForOk};
-ghost use Rattle.mrp_main.specs.Ends.{Ends, HelpEnds, IsDone, RequestEnds};
+ghost use Rattle.mrp_main.specs.Ends.{Ends, HelpEnds, IsDone, IsDoneAs, RequestEnds};
+ghost use Rattle.mrp_words.specs.Folder.{nothing_known};
 ghost use Rattle.mrp_words.specs.Words.{HasWorkers};
 
 use crate::check::check_day;
 use crate::day::{make_day, make_day_of_folder};
 use mrp_commands::{Ending, carry_asked, inspect_asked, make_page};
+use mrp_open::{DeskFolder, open_desk};
 use mrp_rows::{Told, Tries, write_text};
 use mrp_words::{FileStore, NoRequest, Request, read_words};
 use std::alloc::Global;
 use std::convert::AsStr;
+use std::fs::File;
 use std::io::{Read, Write};
 use std::rt::Files;
 use std::sync::Wait;
@@ -27,7 +30,7 @@ fn write_help<W: Write>(text: &str, output: &mut Told<W>) -> Ending
     }
 }
 
-// Answers a request.
+// Answers a request. An order desk on a folder is opened in place of that.
 fn answer<F: FileStore, R: Read, W: Write>(
     rt: &(impl Alloc + Threads + Wait + Sync),
     alloc: Global,
@@ -57,6 +60,10 @@ fn answer<F: FileStore, R: Read, W: Write>(
         },
         Request::Carry(words) => carry_asked(rt, alloc, files, &words, output),
         Request::Inspect(folder) => inspect_asked(rt, alloc, files, &folder, output),
+        Request::Desk {
+            workers: _,
+            folder: _,
+        } => Ending::Usage(String::new(alloc)),
     }
 }
 
@@ -80,14 +87,53 @@ fn carry_out<F: FileStore, R: Read, W: Write>(
     }
 }
 
-/// Does what the words after the program's name ask for, such as `plan --workers 2`, `live`, `page`,
-/// `check --dir D`, `carry --dir D --start DATE` or `inspect --dir D`, with an input, an output and an error stream, and returns the exit status. `plan` and
-/// `live` with `--dir D` take the files of the folder D instead of the input.
+// Does what was asked for, and tells how it ended. An order desk tells more than that, so it gets the error stream.
+fn do_asked<
+    R: Alloc<A = Global> + Eprint + Files<File = File> + Threads + Wait + Sync,
+    I: Read,
+    W: Write,
+    E: Write,
+>(
+    rt: &R,
+    alloc: Global,
+    asked: Result<Request, NoRequest>,
+    input: &mut Told<I>,
+    output: &mut Told<W>,
+    errors: &mut Told<E>,
+) -> Ending
+where
+    R::Dir: Send,
+    requires { ForOk asked HasWorkers }
+    ensures { IsDoneAs nothing_known I.remaining W.contents E.contents
+        input.old input.new output.old output.new errors.old errors.new asked result }
+{
+    match asked {
+        Ok(
+            Request::Desk {
+                workers,
+                folder: Some(folder),
+            },
+        ) => {
+            let mut place = DeskFolder::new(rt, alloc, &folder);
+            open_desk(rt, alloc, &mut place, workers, input, output, errors)
+        }
+        asked => {
+            let end = carry_out(rt, alloc, rt, asked, input, output);
+            let _ = end.tell(errors);
+            end
+        }
+    }
+}
+
+/// Does what the words after the program's name ask for, such as `plan --workers 2`, `live`, `page`, `check --dir D`,
+/// `carry --dir D --start DATE`, `inspect --dir D` or `desk --dir D`, with an input, an output and an error stream, and
+/// returns the exit status. `plan` and `live` with `--dir D` take the files of the folder D instead of the input.
 ///
-/// The status is 0 on success; 1 if the bundle was refused or its plan gets too large, if the text for a page
-/// is no day or not one of the tables, if the day that was checked is wrong, or if tables that were inspected have faults; 2 for wrong words, including a run that the day does
-/// not have and a start that is no Monday of the horizon; 3 when out of memory; and 4 if reading or writing failed. A line on the error stream says why; a
-/// failure to write it does not change the status.
+/// The status is 0 on success; 1 if the bundle was refused or its plan gets too large, if the text for a page is no day or
+/// not one of the tables, if the day that was checked is wrong, if tables that were inspected have faults, or if an order
+/// desk has other tables than its journal; 2 for wrong words, including a run that the day does not have and a start that
+/// is no Monday of the horizon; 3 when out of memory; and 4 if reading or writing failed, or another order desk is open on
+/// the folder. A line on the error stream says why; a failure to write it does not change the status.
 ///
 /// `plan` answers the script in row order; `live` answers it desk by desk, in an order between desks that is
 /// not specified. At 0 such a day of what the input had left has been written; at 1, and if reading failed,
@@ -109,21 +155,31 @@ fn carry_out<F: FileStore, R: Read, W: Write>(
 /// `inspect` tells all faults of a folder's files, at 1, or where the tables are accepted warnings, at 0: all lines have
 /// been written then; if writing failed, a prefix of them; otherwise nothing.
 ///
-/// Words that ask for help or the version have it written; wrong words have nothing written. Only days, pages and checks
-/// that take the input read it.
-pub fn run_words<S: AsStr, R: Read, W: Write, E: Write>(
-    rt: &(impl Alloc + Files + Threads + Wait + Sync),
+/// `desk` opens the order desk of a folder, as `open_desk` says: the lines of the input are answered, or nothing was read
+/// or written. Half a line that was cut off is told on the error stream before how it ended.
+///
+/// Words that ask for help or the version have it written; wrong words have nothing written. Only order desks, and days,
+/// pages and checks that take the input, read it.
+pub fn run_words<
+    S: AsStr,
+    R: Alloc<A = Global> + Eprint + Files<File = File> + Threads + Wait + Sync,
+    I: Read,
+    W: Write,
+    E: Write,
+>(
+    rt: &R,
     alloc: Global,
     words: &[S],
-    input: &mut Told<R>,
+    input: &mut Told<I>,
     output: &mut Told<W>,
     errors: &mut Told<E>,
 ) -> u8
-    ensures done { IsDone R.remaining W.contents E.contents (map S.text words.now)
+where
+    R::Dir: Send,
+    ensures done { IsDone I.remaining W.contents E.contents (map S.text words.now)
         input.old input.new output.old output.new errors.old errors.new result }
     ensures few { result < 5 }
 {
-    let end = carry_out(rt, alloc, rt, read_words(alloc, words), input, output);
-    let _ = end.tell(errors);
+    let end = do_asked(rt, alloc, read_words(alloc, words), input, output, errors);
     end.status().code()
 }

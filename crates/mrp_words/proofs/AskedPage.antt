@@ -6,7 +6,7 @@ use Rattle.clap.specs.Matches.{ReadsOne, subcommand_name_of}
 use Rattle.clap.specs.Simple.{subcommand_rows_of}
 use Rattle.clap.specs.Walk.{Row, Text}
 use Rattle.clap.specs.declared.parser.matches.ArgMatches.{ArgMatches}
-use Rattle.mrp_words.specs.Words.{Enters, EntersCheckOrDay, EntersUncarried, EntersUnpaged, IsEntered, IsRunIn}
+use Rattle.mrp_words.specs.Words.{Enters, EntersCheckOrDay, EntersUncarried, EntersUninspected, EntersUnpaged, IsEntered, IsRunIn}
 use Rattle.mrp_words.specs.declared.day.DayCommand.{DayCommand}
 use Rattle.mrp_words.proofs.Workers.{named}
 
@@ -25,8 +25,13 @@ both f g (Some x) name rows named has =
     let is_rows : g x ≡ rows = cc in
     ap₂ (λ (t : Text) (r : List Row). Some (t, r)) is_name is_rows
 
--- a command that was entered and is not `inspect` is `check`, or makes a day
-pub uninspected : (m : ArgMatches) → (subcommand_name_of m ≡ Some (codes "inspect") → ⊥) → EntersUncarried (subcommand_rows_of m) → EntersCheckOrDay (subcommand_rows_of m)
+-- a command that was entered and is not `desk` is `check`, or makes a day
+pub no-desk : (m : ArgMatches) → (subcommand_name_of m ≡ Some (codes "desk") → ⊥) → EntersUninspected (subcommand_rows_of m) → EntersCheckOrDay (subcommand_rows_of m)
+no-desk m other (inl entered) = entered
+no-desk m other (inr (rows, is)) = absurd (other (named m (codes "desk") rows is))
+
+-- a command that was entered and is not `inspect` is one of the others
+pub uninspected : (m : ArgMatches) → (subcommand_name_of m ≡ Some (codes "inspect") → ⊥) → EntersUncarried (subcommand_rows_of m) → EntersUninspected (subcommand_rows_of m)
 uninspected m other (inl entered) = entered
 uninspected m other (inr (rows, is)) = absurd (other (named m (codes "inspect") rows is))
 

@@ -127,21 +127,22 @@ one-is-wanted : (rows : List Row) (has : Bool) → check_fault (built mrp_comman
 one-is-wanted rows true fault = refl
 one-is-wanted rows false fault = absurd (some-kind kind.MissingSubcommand [] fault)
 
--- one of six
-abbrev OneOf : Option (Text × List Row) → Text × List Row → Text × List Row → Text × List Row → Text × List Row → Text × List Row → Text × List Row → Type 0
-OneOf found one two three four five six = (found ≡ Some one) ⊎ ((found ≡ Some two) ⊎ ((found ≡ Some three) ⊎ ((found ≡ Some four) ⊎ ((found ≡ Some five) ⊎ (found ≡ Some six)))))
+-- one of seven
+abbrev OneOf : Option (Text × List Row) → Text × List Row → Text × List Row → Text × List Row → Text × List Row → Text × List Row → Text × List Row → Text × List Row → Type 0
+OneOf found one two three four five six seven = (found ≡ Some one) ⊎ ((found ≡ Some two) ⊎ ((found ≡ Some three) ⊎ ((found ≡ Some four) ⊎ ((found ≡ Some five) ⊎ ((found ≡ Some six) ⊎ (found ≡ Some seven))))))
 
-first-six : (f : Shape → Text × List Row) (one two three four five six seven : Shape) (is_one is_two is_three is_four is_five is_six is_seven : Bool) → is_seven ≡ false
-    → let found = option_map f (cond is_one (Some one) (cond is_two (Some two) (cond is_three (Some three) (cond is_four (Some four) (cond is_five (Some five) (cond is_six (Some six) (cond is_seven (Some seven) None))))))) in
-    is_some found ≡ true → OneOf found (f one) (f two) (f three) (f four) (f five) (f six)
-first-six f one two three four five six seven true is_two is_three is_four is_five is_six is_seven none some = inl refl
-first-six f one two three four five six seven false true is_three is_four is_five is_six is_seven none some = inr (inl refl)
-first-six f one two three four five six seven false false true is_four is_five is_six is_seven none some = inr (inr (inl refl))
-first-six f one two three four five six seven false false false true is_five is_six is_seven none some = inr (inr (inr (inl refl)))
-first-six f one two three four five six seven false false false false true is_six is_seven none some = inr (inr (inr (inr (inl refl))))
-first-six f one two three four five six seven false false false false false true is_seven none some = inr (inr (inr (inr (inr refl))))
-first-six f one two three four five six seven false false false false false false true none some = absurd (true≢false none)
-first-six f one two three four five six seven false false false false false false false none some = absurd (true≢false (sym some))
+first-seven : (f : Shape → Text × List Row) (one two three four five six seven eight : Shape) (is_one is_two is_three is_four is_five is_six is_seven is_eight : Bool) → is_eight ≡ false
+    → let found = option_map f (cond is_one (Some one) (cond is_two (Some two) (cond is_three (Some three) (cond is_four (Some four) (cond is_five (Some five) (cond is_six (Some six) (cond is_seven (Some seven) (cond is_eight (Some eight) None)))))))) in
+    is_some found ≡ true → OneOf found (f one) (f two) (f three) (f four) (f five) (f six) (f seven)
+first-seven f one two three four five six seven eight true is_two is_three is_four is_five is_six is_seven is_eight none some = inl refl
+first-seven f one two three four five six seven eight false true is_three is_four is_five is_six is_seven is_eight none some = inr (inl refl)
+first-seven f one two three four five six seven eight false false true is_four is_five is_six is_seven is_eight none some = inr (inr (inl refl))
+first-seven f one two three four five six seven eight false false false true is_five is_six is_seven is_eight none some = inr (inr (inr (inl refl)))
+first-seven f one two three four five six seven eight false false false false true is_six is_seven is_eight none some = inr (inr (inr (inr (inl refl))))
+first-seven f one two three four five six seven eight false false false false false true is_seven is_eight none some = inr (inr (inr (inr (inr (inl refl)))))
+first-seven f one two three four five six seven eight false false false false false false true is_eight none some = inr (inr (inr (inr (inr (inr refl)))))
+first-seven f one two three four five six seven eight false false false false false false false true none some = absurd (true≢false none)
+first-seven f one two three four five six seven eight false false false false false false false false none some = absurd (true≢false (sym some))
 
 -- a text that is not `help` is not answered to by it
 help-apart : (text : Text) (is : Bool) → bytes_eq text (codes "help") ≡ false → bytes_eq (codes "help") text ≡ is → is ≡ false
@@ -154,28 +155,29 @@ help-apart text true apart same =
 label-apart : (word name : Text) → bytes_eq name word ≡ false → answers_to word (name, []) ≡ false
 label-apart word name apart = subst (λ (b : Bool). (b || false) ≡ false) (sym apart) refl
 
--- of seven subcommands, the last of which is `help`, one of the others was entered
-of-seven : (a : App) (plan live page check carry inspect help : Shape) (p : Text × List Text) → a.subs ≡ plan ∷ live ∷ page ∷ check ∷ carry ∷ inspect ∷ help ∷ [] → label_of help ≡ (codes "help", []) → bytes_eq p.0 (codes "help") ≡ false
-    → is_some (entered a (Some p)) ≡ true → OneOf (entered a (Some p)) (rows_at plan p.1) (rows_at live p.1) (rows_at page p.1) (rows_at check p.1) (rows_at carry p.1) (rows_at inspect p.1)
-of-seven a plan live page check carry inspect help p subs label apart =
+-- of eight subcommands, the last of which is `help`, one of the others was entered
+of-eight : (a : App) (plan live page check carry inspect desk help : Shape) (p : Text × List Text) → a.subs ≡ plan ∷ live ∷ page ∷ check ∷ carry ∷ inspect ∷ desk ∷ help ∷ [] → label_of help ≡ (codes "help", []) → bytes_eq p.0 (codes "help") ≡ false
+    → is_some (entered a (Some p)) ≡ true → OneOf (entered a (Some p)) (rows_at plan p.1) (rows_at live p.1) (rows_at page p.1) (rows_at check p.1) (rows_at carry p.1) (rows_at inspect p.1) (rows_at desk p.1)
+of-eight a plan live page check carry inspect desk help p subs label apart =
     let Found : List Shape → Option (Text × List Row) = λ xs. option_map (λ (s : Shape). rows_at s p.1) (find (λ (s : Shape). answers_to p.0 (label_of s)) xs) in
     let is_help : answers_to p.0 (label_of help) ≡ false =
     ap (answers_to p.0) label ∙ label-apart p.0 (codes "help") (help-apart p.0 (bytes_eq (codes "help") p.0) apart refl) in
-    subst (λ (xs : List Shape). is_some (Found xs) ≡ true → OneOf (Found xs) (rows_at plan p.1) (rows_at live p.1) (rows_at page p.1) (rows_at check p.1) (rows_at carry p.1) (rows_at inspect p.1)) (sym subs)
-    (first-six (λ (s : Shape). rows_at s p.1) plan live page check carry inspect help (answers_to p.0 (label_of plan)) (answers_to p.0 (label_of live)) (answers_to p.0 (label_of page)) (answers_to p.0 (label_of check))
-    (answers_to p.0 (label_of carry)) (answers_to p.0 (label_of inspect)) (answers_to p.0 (label_of help)) is_help)
+    subst (λ (xs : List Shape). is_some (Found xs) ≡ true → OneOf (Found xs) (rows_at plan p.1) (rows_at live p.1) (rows_at page p.1) (rows_at check p.1) (rows_at carry p.1) (rows_at inspect p.1) (rows_at desk p.1)) (sym subs)
+    (first-seven (λ (s : Shape). rows_at s p.1) plan live page check carry inspect desk help (answers_to p.0 (label_of plan)) (answers_to p.0 (label_of live)) (answers_to p.0 (label_of page)) (answers_to p.0 (label_of check))
+    (answers_to p.0 (label_of carry)) (answers_to p.0 (label_of inspect)) (answers_to p.0 (label_of desk)) (answers_to p.0 (label_of help)) is_help)
 
-as-command : (found : Option (Text × List Row)) (plan live page check carry inspect : List Row) → OneOf found (codes "plan", plan) (codes "live", live) (codes "page", page) (codes "check", check) (codes "carry", carry) (codes "inspect", inspect) → IsEntered found
-as-command found plan live page check carry inspect (inl e) = inl (inl (inl (inl (Plan, (plan, e)))))
-as-command found plan live page check carry inspect (inr (inl e)) = inl (inl (inl (inl (Live, (live, e)))))
-as-command found plan live page check carry inspect (inr (inr (inl e))) = inr (page, e)
-as-command found plan live page check carry inspect (inr (inr (inr (inl e)))) = inl (inl (inl (inr (check, e))))
-as-command found plan live page check carry inspect (inr (inr (inr (inr (inl e))))) = inl (inr (carry, e))
-as-command found plan live page check carry inspect (inr (inr (inr (inr (inr e))))) = inl (inl (inr (inspect, e)))
+as-command : (found : Option (Text × List Row)) (plan live page check carry inspect desk : List Row) → OneOf found (codes "plan", plan) (codes "live", live) (codes "page", page) (codes "check", check) (codes "carry", carry) (codes "inspect", inspect) (codes "desk", desk) → IsEntered found
+as-command found plan live page check carry inspect desk (inl e) = inl (inl (inl (inl (inl (Plan, (plan, e))))))
+as-command found plan live page check carry inspect desk (inr (inl e)) = inl (inl (inl (inl (inl (Live, (live, e))))))
+as-command found plan live page check carry inspect desk (inr (inr (inl e))) = inr (page, e)
+as-command found plan live page check carry inspect desk (inr (inr (inr (inl e)))) = inl (inl (inl (inl (inr (check, e)))))
+as-command found plan live page check carry inspect desk (inr (inr (inr (inr (inl e))))) = inl (inr (carry, e))
+as-command found plan live page check carry inspect desk (inr (inr (inr (inr (inr (inl e)))))) = inl (inl (inr (inspect, e)))
+as-command found plan live page check carry inspect desk (inr (inr (inr (inr (inr (inr e)))))) = inl (inl (inl (inr (desk, e))))
 
 entered-one : (stop : Option (Text × List Text)) → NotAtHelp stop → is_some (entered (built mrp_command) stop) ≡ true → IsEntered (entered (built mrp_command) stop)
 entered-one None apart some = absurd (true≢false (sym some))
-entered-one (Some p) apart some = as-command (entered (built mrp_command) (Some p)) _ _ _ _ _ _ (of-seven (built mrp_command) _ _ _ _ _ _ _ p refl refl apart some)
+entered-one (Some p) apart some = as-command (entered (built mrp_command) (Some p)) _ _ _ _ _ _ _ (of-eight (built mrp_command) _ _ _ _ _ _ _ _ p refl refl apart some)
 
 -- words that are accepted enter one of the commands
 pub enters-one : (words : List Text) → refusals words ≡ [] → IsEntered (subcommand_of mrp_command words)

@@ -26,7 +26,7 @@ says_refused said = starts_with nat_eq said (codes "refused: ")
 abbrev pub is_command : List ℕ → Bool
 is_command word =
     bytes_eq word (codes "plan")
-    || (bytes_eq word (codes "live") || (bytes_eq word (codes "page") || (bytes_eq word (codes "check") || (bytes_eq word (codes "carry") || bytes_eq word (codes "inspect")))))
+    || (bytes_eq word (codes "live") || (bytes_eq word (codes "page") || (bytes_eq word (codes "check") || (bytes_eq word (codes "carry") || (bytes_eq word (codes "inspect") || bytes_eq word (codes "desk"))))))
 
 -- a word begins as an option does
 abbrev pub is_option : List ℕ → Bool

@@ -15,7 +15,7 @@ use Rattle.clap.specs.declared.error.kind.ErrorKind.{ErrorKind}
 use Rattle.clap.specs.declared.error.kind.ErrorKind.TheVariants.{DisplayHelp, DisplayVersion, OutOfMemory}
 use Rattle.mrp_words.specs.declared.command.TheConstants.{MOST_WORKERS}
 use Rattle.mrp_words.specs.declared.command.Request.{Request}
-use Rattle.mrp_words.specs.declared.command.Request.TheVariants.{Carry, Check, Day, Inspect, Page}
+use Rattle.mrp_words.specs.declared.command.Request.TheVariants.{Carry, Check, Day, Desk, Inspect, Page}
 use Rattle.mrp_words.specs.declared.day.DayCommand.{DayCommand}
 use Rattle.mrp_words.specs.declared.carry_words.CarryWords.{CarryWords}
 use Rattle.mrp_words.specs.declared.page_words.PageWords.{PageWords}
@@ -115,6 +115,10 @@ carry_app = with_rule (with_rule (with_rule (new_app (codes "carry")) checked_ru
 abbrev pub inspect_app : App
 inspect_app = with_rule (new_app (codes "inspect")) checked_rule
 
+-- `desk`: its word, and its options
+abbrev pub desk_app : App
+desk_app = with_rule (with_rule (new_app (codes "desk")) workers_rule) checked_rule
+
 -- no argument of a command is also one of its subcommands
 abbrev pub HasNoGlobals : Command → Type 0
 HasNoGlobals command = (out-Command command).has_globals ≡ false
@@ -127,13 +131,15 @@ mrp_command =
     with_subcommand (
     with_subcommand (
     with_subcommand (
+    with_subcommand (
     with_subcommand (on_top (λ s. record s { has_version = true; no_binary_name = true; subcommand_required = true }) (new_app (codes "mrp")))
     (day_app Plan).top)
     (day_app Live).top)
     page_app.top)
     check_app.top)
     carry_app.top)
-    inspect_app.top
+    inspect_app.top)
+    desk_app.top
 
 -- why clap may refuse the words; help is also a refusal, and words that are accepted have none
 abbrev pub refusals : List Text → Kinds
@@ -166,15 +172,17 @@ HasWorkers (Page words) = ⊤
 HasWorkers (Check folder) = ⊤
 HasWorkers (Carry words) = ⊤
 HasWorkers (Inspect folder) = ⊤
+HasWorkers (Desk workers folder) = IsInRange 1 MOST_WORKERS workers
 
--- the folder whose files are to be planned or inspected, or that a day is to be checked against, is the one that the words
--- name
+-- the folder whose files are to be planned or inspected, that a day is to be checked against or that has an order desk, is
+-- the one that the words name
 abbrev pub HasFolder : Option (Text × List Row) → Request → Type 0
 HasFolder entered (Day command workers folder) = option_map string_bytes folder ≡ dir_among entered
 HasFolder entered (Page words) = ⊤
 HasFolder entered (Check folder) = option_map string_bytes folder ≡ dir_among entered
 HasFolder entered (Carry words) = ⊤
 HasFolder entered (Inspect folder) = option_map string_bytes folder ≡ dir_among entered
+HasFolder entered (Desk workers folder) = option_map string_bytes folder ≡ dir_among entered
 
 -- the subcommand that words enter is this command
 abbrev pub Enters : Option (Text × List Row) → DayCommand → Type 0
@@ -196,9 +204,17 @@ EntersCheckOrDay entered = ((command : DayCommand) × Enters entered command) �
 abbrev pub EntersInspect : Option (Text × List Row) → List Row → Type 0
 EntersInspect entered rows = entered ≡ Some (codes "inspect", rows)
 
+-- the subcommand that words enter is `desk`, with these rows
+abbrev pub EntersDesk : Option (Text × List Row) → List Row → Type 0
+EntersDesk entered rows = entered ≡ Some (codes "desk", rows)
+
+-- words enter a command other than `page`, `carry` and `inspect`
+abbrev pub EntersUninspected : Option (Text × List Row) → Type 0
+EntersUninspected entered = EntersCheckOrDay entered ⊎ ((rows : List Row) × EntersDesk entered rows)
+
 -- words enter a command other than `page` and `carry`
 abbrev pub EntersUncarried : Option (Text × List Row) → Type 0
-EntersUncarried entered = EntersCheckOrDay entered ⊎ ((rows : List Row) × EntersInspect entered rows)
+EntersUncarried entered = EntersUninspected entered ⊎ ((rows : List Row) × EntersInspect entered rows)
 
 -- the subcommand that words enter is `carry`, with these rows
 abbrev pub EntersCarry : Option (Text × List Row) → List Row → Type 0
@@ -273,6 +289,10 @@ pub record IsBy (entered : Option (Text × List Row)) (workers : ℕ) : Type 0 w
 abbrev pub AskFor : List Text → DayCommand → ℕ → Type 0
 AskFor words command workers = Enters (subcommand_of mrp_command words) command × IsBy (subcommand_of mrp_command words) workers
 
+-- words ask for an order desk of this folder, with so many workers
+abbrev pub AskForDesk : List Text → Text → ℕ → Type 0
+AskForDesk words folder workers = ((rows : List Row) × EntersDesk (subcommand_of mrp_command words) rows) × (folder_in words ≡ Some folder) × IsBy (subcommand_of mrp_command words) workers
+
 -- a request is for the command that words enter, and has the workers, or the words of the page, that are asked for
 abbrev pub IsAsAsked : Option (Text × List Row) → Request → Type 0
 IsAsAsked entered (Day command workers folder) = Enters entered command × ((asked : ℕ) → IsBy entered asked → workers ≡ asked)
@@ -280,6 +300,7 @@ IsAsAsked entered (Page words) = (rows : List Row) × EntersPage entered rows ×
 IsAsAsked entered (Check folder) = (rows : List Row) × EntersCheck entered rows
 IsAsAsked entered (Carry words) = (rows : List Row) × EntersCarry entered rows × HasCarryWords rows words
 IsAsAsked entered (Inspect folder) = (rows : List Row) × EntersInspect entered rows
+IsAsAsked entered (Desk workers folder) = ((rows : List Row) × EntersDesk entered rows) × ((asked : ℕ) → IsBy entered asked → workers ≡ asked)
 
 -- what an error of `clap` asks for, by its kind
 abbrev pub IsOfKind : ErrorKind → NoRequest → Type 0

@@ -7,11 +7,12 @@ ghost use Rattle.clap.specs.Values.{kind_of};
 ghost use Rattle.clap.specs.Walk.{rule_of};
 ghost use Rattle.clap.specs.Simple.{app_of, subcommand_rows_of};
 ghost use Rattle.mrp_words.specs.Help.{help_line, help_text};
-ghost use Rattle.mrp_words.specs.Words.{Asks, Enters, EntersCheckOrDay, EntersUncarried, EntersUnpaged, HasFolder, HasNoGlobals, HasWorkers, IsAsAsked, IsBy, IsEntered, IsOfKind, day_app, dir_among, dir_rule, mrp_command, workers_rule};
+ghost use Rattle.mrp_words.specs.Words.{Asks, Enters, EntersCheckOrDay, EntersUncarried, EntersUninspected, EntersUnpaged, HasFolder, HasNoGlobals, HasWorkers, IsAsAsked, IsBy, IsEntered, IsOfKind, day_app, dir_among, dir_rule, mrp_command, workers_rule};
 
 use crate::carry_words::{CarryWords, carry_command, carry_words};
 use crate::check_words::check_command;
 use crate::day::DayCommand;
+use crate::desk_words::desk_command;
 use crate::inspect_words::inspect_command;
 use crate::page_words::{PageWords, page_command, page_words};
 use clap::builder::ValueParser;
@@ -79,6 +80,7 @@ pub(crate) const EXAMPLE: &str = "Examples:
   mrp check --dir shop < shop.day
   mrp carry --dir shop --start 2025-01-13 > kept.csv
   mrp inspect --dir shop
+  mrp desk --dir shop
 
 Exit status: 0 done, 1 refused or wrong, 2 usage, 3 no memory, 4 read or write failed.";
 
@@ -100,6 +102,12 @@ pub enum Request {
     Carry(CarryWords),
     /// Inspect the files of the folder that is named. `clap` requires one.
     Inspect(Option<String>),
+    /// Answer calls at an order desk of the folder that is named, and plan its runs with 1 to 64 workers. `clap` requires
+    /// a folder.
+    Desk {
+        workers: usize,
+        folder: Option<String>,
+    },
 }
 
 /// Why the words ask for nothing to be done.
@@ -124,7 +132,7 @@ impl From<AllocError> for NoRequest {
     }
 }
 
-fn workers<'a>(alloc: Global) -> Arg<'a>
+pub(crate) fn workers<'a>(alloc: Global) -> Arg<'a>
     ensures rule { rule_of result ≡ workers_rule }
     ensures local { result.global ≡ false }
 {
@@ -187,7 +195,8 @@ fn command<'a>(alloc: Global) -> Result<Command<'a>, AllocError>
         .subcommand(page_command(alloc)?)?
         .subcommand(check_command(alloc)?)?
         .subcommand(carry_command(alloc)?)?
-        .subcommand(inspect_command(alloc)?)
+        .subcommand(inspect_command(alloc)?)?
+        .subcommand(desk_command(alloc)?)
 }
 
 // Why `clap` gave no matches, with its text.
@@ -303,6 +312,24 @@ fn check_or_day(alloc: Global, matches: &ArgMatches<'_>) -> Result<Request, NoRe
     }
 }
 
+// The request of an order desk, or of a day or its check.
+fn uninspected_request(alloc: Global, matches: &ArgMatches<'_>) -> Result<Request, NoRequest>
+    requires { EntersUninspected (subcommand_rows_of matches.now) }
+    ensures workers { IfOk result HasWorkers }
+    ensures asked { IfOk result (IsAsAsked (subcommand_rows_of matches.now)) }
+    ensures folder { IfOk result (HasFolder (subcommand_rows_of matches.now)) }
+    ensures memory { IfErr result (λ none. none ≡ NoRequest.NoMemory) }
+{
+    match matches.subcommand_matches("desk") {
+        Some(found) => {
+            let folder = text_in(alloc, found, "dir")?;
+            let workers = workers_taken(matches);
+            Ok(Request::Desk { workers, folder })
+        }
+        None => check_or_day(alloc, matches),
+    }
+}
+
 fn uncarried_request(alloc: Global, matches: &ArgMatches<'_>) -> Result<Request, NoRequest>
     requires { EntersUncarried (subcommand_rows_of matches.now) }
     ensures workers { IfOk result HasWorkers }
@@ -312,7 +339,7 @@ fn uncarried_request(alloc: Global, matches: &ArgMatches<'_>) -> Result<Request,
 {
     match matches.subcommand_matches("inspect") {
         Some(found) => Ok(Request::Inspect(text_in(alloc, found, "dir")?)),
-        None => check_or_day(alloc, matches),
+        None => uninspected_request(alloc, matches),
     }
 }
 

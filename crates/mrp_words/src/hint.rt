@@ -58,6 +58,7 @@ fn is_command(word: &str) -> bool
         || word == "check"
         || word == "carry"
         || word == "inspect"
+        || word == "desk"
 }
 
 // Whether a word begins as an option does.

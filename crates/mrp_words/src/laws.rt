@@ -4,7 +4,7 @@
 ghost use Rattle.std.specs.Prelude.{◌≡◌, [], ◌∷◌, Some, None, codes, false, true};
 ghost use Rattle.clap.specs.declared.error.kind.ErrorKind.TheVariants as kind;
 ghost use Rattle.mrp_words.specs.declared.day.DayCommand.TheVariants.{Plan, Live};
-ghost use Rattle.mrp_words.specs.Words.{AskFor, AskForCarry, AskForCheck, AskForInspection, AskForPage, folder_in, refusals};
+ghost use Rattle.mrp_words.specs.Words.{AskFor, AskForCarry, AskForCheck, AskForDesk, AskForInspection, AskForPage, folder_in, refusals};
 
 /// Words that are accepted, and why others are refused.
 pub fn words()
@@ -22,6 +22,7 @@ pub fn words()
     ensures carry { refusals (codes "carry" ∷ codes "--dir" ∷ codes "shop" ∷ codes "--start" ∷ codes "2025-01-20" ∷ []) ≡ [] }
     ensures carried_numbers { refusals (codes "carry" ∷ codes "--numbers" ∷ codes "--start=2025-01-20" ∷ codes "--dir=shop" ∷ []) ≡ [] }
     ensures inspect { refusals (codes "inspect" ∷ codes "--dir" ∷ codes "shop" ∷ []) ≡ [] }
+    ensures desk { refusals (codes "desk" ∷ codes "--dir" ∷ codes "shop" ∷ codes "--workers=4" ∷ []) ≡ [] }
     // They name a folder, or none.
     ensures named { folder_in (codes "plan" ∷ codes "--dir" ∷ codes "shop" ∷ []) ≡ Some (codes "shop") }
     ensures behind { folder_in (codes "plan" ∷ codes "--workers=2" ∷ codes "--dir=shop" ∷ []) ≡ Some (codes "shop") }
@@ -44,6 +45,9 @@ pub fn words()
     ensures listed { AskForCarry (codes "carry" ∷ codes "--dir=shop" ∷ codes "--start=2025-01-20" ∷ codes "--numbers" ∷ []) (codes "shop") (codes "2025-01-20") true }
     // They ask for the tables of this folder to be inspected.
     ensures inspected { AskForInspection (codes "inspect" ∷ codes "--dir=shop" ∷ []) (codes "shop") }
+    // They ask for an order desk of this folder, with this many workers.
+    ensures open_desk { AskForDesk (codes "desk" ∷ codes "--dir=shop" ∷ []) (codes "shop") 1 }
+    ensures desk_workers { AskForDesk (codes "desk" ∷ codes "--dir=shop" ∷ codes "--workers" ∷ codes "8" ∷ []) (codes "shop") 8 }
     // These ask for help.
     ensures help { refusals (codes "--help" ∷ []) ≡ kind.DisplayHelp ∷ [] }
     ensures short { refusals (codes "-h" ∷ []) ≡ kind.DisplayHelp ∷ [] }
@@ -53,6 +57,7 @@ pub fn words()
     ensures help_of_check { refusals (codes "check" ∷ codes "--help" ∷ []) ≡ kind.DisplayHelp ∷ [] }
     ensures help_of_carry { refusals (codes "carry" ∷ codes "--help" ∷ []) ≡ kind.DisplayHelp ∷ [] }
     ensures help_of_inspect { refusals (codes "inspect" ∷ codes "--help" ∷ []) ≡ kind.DisplayHelp ∷ [] }
+    ensures help_of_desk { refusals (codes "desk" ∷ codes "--help" ∷ []) ≡ kind.DisplayHelp ∷ [] }
     // These ask for the version.
     ensures version { refusals (codes "--version" ∷ []) ≡ kind.DisplayVersion ∷ [] }
     ensures short_version { refusals (codes "-V" ∷ []) ≡ kind.DisplayVersion ∷ [] }
@@ -70,6 +75,8 @@ pub fn words()
     ensures check_by_workers { refusals (codes "check" ∷ codes "--dir=shop" ∷ codes "--workers=2" ∷ []) ≡ kind.UnknownArgument ∷ [] }
     ensures no_inspected_folder { refusals (codes "inspect" ∷ []) ≡ kind.MissingRequiredArgument ∷ [] }
     ensures inspected_by_word { refusals (codes "inspect" ∷ codes "shop" ∷ []) ≡ kind.UnknownArgument ∷ [] }
+    ensures no_desk_folder { refusals (codes "desk" ∷ []) ≡ kind.MissingRequiredArgument ∷ [] }
+    ensures no_desk_worker { refusals (codes "desk" ∷ codes "--dir=shop" ∷ codes "--workers=0" ∷ []) ≡ kind.ValueValidation ∷ [] }
     ensures no_start { refusals (codes "carry" ∷ codes "--dir=shop" ∷ []) ≡ kind.MissingRequiredArgument ∷ [] }
     ensures no_carried_folder { refusals (codes "carry" ∷ codes "--start=2025-01-20" ∷ []) ≡ kind.MissingRequiredArgument ∷ [] }
     ensures two_starts { refusals (codes "carry" ∷ codes "--dir=shop" ∷ codes "--start=2025-01-20" ∷ codes "--start=2025-01-20" ∷ []) ≡ kind.ArgumentConflict ∷ [] }

@@ -5,6 +5,7 @@ mod carry_words;
 mod check_words;
 mod command;
 mod day;
+mod desk_words;
 mod files;
 mod hint;
 mod inspect_words;

@@ -24,59 +24,64 @@ fn make_file(files: &impl Files, path: &str, head: &str, rows: &str) -> Result<(
     Ok(())
 }
 
-// The files of a folder of the bicycle shop in which frames are welded, and whose script has the calls of
-// two desks: each with its header and its records.
-fn files_of_lots<'a>() -> [(&'a str, &'a str, &'a str); 9] {
+// The files of a folder of the bicycle shop in which frames are welded, with this script: each with its header and its
+// records.
+fn files_of_lots<'a>(script: &'a str) -> [(&'a str, &'a str, &'a str); 9] {
     let shop = bicycles_welded();
     [
-        ("out/lots/calendar.csv", "key,value\n", shop.calendar),
+        ("calendar.csv", "key,value\n", shop.calendar),
         (
-            "out/lots/items.csv",
+            "items.csv",
             "item,class,lead,scrap,lot,size,safety\n",
             shop.items,
         ),
-        ("out/lots/centres.csv", "centre,minutes\n", shop.centres),
-        ("out/lots/stock.csv", "item,onhand\n", shop.stock),
+        ("centres.csv", "centre,minutes\n", shop.centres),
+        ("stock.csv", "item,onhand\n", shop.stock),
+        ("receipts.csv", "item,order,date,quantity\n", shop.receipts),
+        ("bills.csv", "parent,component,per\n", shop.bills),
         (
-            "out/lots/receipts.csv",
-            "item,order,date,quantity\n",
-            shop.receipts,
-        ),
-        ("out/lots/bills.csv", "parent,component,per\n", shop.bills),
-        (
-            "out/lots/routings.csv",
+            "routings.csv",
             "item,op,centre,setup,run,offset\n",
             shop.routings,
         ),
+        ("master.csv", "item,row,date,quantity\n", shop.master),
         (
-            "out/lots/master.csv",
-            "item,row,date,quantity\n",
-            shop.master,
-        ),
-        (
-            "out/lots/script.csv",
+            "script.csv",
             "desk,call,item,date,quantity,number\n",
-            SCRIPT,
+            script,
         ),
     ]
 }
 
-// Makes that folder, which may exist from an earlier run.
-pub(super) fn make_folder(files: &impl Files) -> Result<(), Fail> {
-    let _ = fs::create_dir(files, "out");
-    let _ = fs::create_dir(files, "out/lots");
-    for (path, head, rows) in files_of_lots() {
-        make_file(files, path, head, rows)?;
+// Makes that folder under this name. It may exist from an earlier run.
+pub(super) fn make_shop(
+    rt: &(impl AllocGlobal + Files),
+    folder: &str,
+    script: &str,
+) -> Result<(), Fail> {
+    let _ = fs::create_dir(rt, "out");
+    let _ = fs::create_dir(rt, folder);
+    for (name, head, rows) in files_of_lots(script) {
+        let path = format!(in rt.alloc(); "{folder}/{name}")?;
+        make_file(rt, &path, head, rows)?;
     }
     Ok(())
 }
 
+// Makes it with a script that has the calls of two desks.
+pub(super) fn make_folder(rt: &(impl AllocGlobal + Files)) -> Result<(), Fail> {
+    make_shop(rt, "out/lots", SCRIPT)
+}
+
 // What the check of a day of these pieces leaves.
-fn checked<R: Alloc + Abort + Eprint + Files + Threads + Wait + Sync>(
+fn checked<R: AllocGlobal + Abort + Eprint + Files<File = File> + Threads + Wait + Sync>(
     rt: &R,
     alloc: Global,
     pieces: &[&str],
-) -> Left {
+) -> Left
+where
+    R::Dir: Send,
+{
     made(rt, make_folder(rt));
     let day = text_of(rt, alloc, pieces);
     let left = left_by(rt, alloc, CHECK, Streams::of(&day));
@@ -85,12 +90,15 @@ fn checked<R: Alloc + Abort + Eprint + Files + Threads + Wait + Sync>(
 }
 
 // What the check of the right day leaves with the first occurrence of this text replaced.
-fn checked_changed<R: Alloc + Abort + Eprint + Files + Threads + Wait + Sync>(
+fn checked_changed<R: AllocGlobal + Abort + Eprint + Files<File = File> + Threads + Wait + Sync>(
     rt: &R,
     alloc: Global,
     old: &str,
     new: &str,
-) -> Left {
+) -> Left
+where
+    R::Dir: Send,
+{
     let day = text_of(rt, alloc, DAY);
     let Some((front, back)) = day.split_once(old) else {
         rt.panic("the day has no such place")

@@ -54,12 +54,15 @@ pub struct Left {
 }
 
 // What these words leave.
-pub fn left_by<R: Alloc + Abort + Files + Threads + Wait + Sync>(
+pub fn left_by<R: AllocGlobal + Abort + Eprint + Files<File = File> + Threads + Wait + Sync>(
     rt: &R,
     alloc: Global,
     words: &[&str],
     streams: Streams<'_>,
-) -> Left {
+) -> Left
+where
+    R::Dir: Send,
+{
     let mut input = reader(streams.reads, streams.input);
     let mut output = writer(alloc, streams.writes);
     let mut errors = writer(alloc, streams.tells);
@@ -72,12 +75,15 @@ pub fn left_by<R: Alloc + Abort + Files + Threads + Wait + Sync>(
 }
 
 // What they leave on the output, of streams that move everything.
-pub fn output_of<R: Alloc + Abort + Files + Threads + Wait + Sync>(
+pub fn output_of<R: AllocGlobal + Abort + Eprint + Files<File = File> + Threads + Wait + Sync>(
     rt: &R,
     alloc: Global,
     words: &[&str],
     input: &str,
-) -> String {
+) -> String
+where
+    R::Dir: Send,
+{
     let left = left_by(rt, alloc, words, Streams::of(input));
     let Left {
         status: _,
@@ -126,12 +132,15 @@ fn bundles_are_planned_by_1_to_64_workers(rt: HostRuntime) {
 }
 
 // The status of a run whose error stream fails.
-fn unheard_status<R: Alloc + Abort + Files + Threads + Wait + Sync>(
+fn unheard_status<R: AllocGlobal + Abort + Eprint + Files<File = File> + Threads + Wait + Sync>(
     rt: &R,
     alloc: Global,
     words: &[&str],
     input: &str,
-) -> u8 {
+) -> u8
+where
+    R::Dir: Send,
+{
     let streams = Streams {
         tells: acts(&[], FAILS),
         ..Streams::of(input)
@@ -164,7 +173,7 @@ fn is_usage(rt: &impl Abort, left: &Left, line: &str) {
 }
 
 // Wrong words, and the first line that is reported for them.
-const WRONG: [(&[&str], &str); 22] = [
+const WRONG: [(&[&str], &str); 24] = [
     (
         &[],
         "error: 'mrp' requires a subcommand but one was not provided",
@@ -232,6 +241,14 @@ const WRONG: [(&[&str], &str); 22] = [
         "error: unexpected value '1' for '--numbers' found; no more were expected",
     ),
     (
+        &["desk", "--workers", "2"],
+        "error: the following required arguments were not provided:",
+    ),
+    (
+        &["desk", "--dir", "shop", "--workers", "65"],
+        "error: invalid value '65' for '--workers <N>': 65 is not in 1..=64",
+    ),
+    (
         &["--workers", "2"],
         "error: unexpected argument '--workers' found",
     ),
@@ -268,7 +285,8 @@ fn help_is_written_to_the_output(rt: HostRuntime) {
     const OF_CHECK: &str = "  wrong: report N   the report of run N";
     const OF_CARRY: &str = "With --numbers a list is written in its place";
     const OF_INSPECT: &str = "  2 faults (warnings are told when there is none)\n";
-    const ASKED: [(&[&str], &str, &str); 14] = [
+    const OF_DESK: &str = "  1,1,book,BIKE,3,12,,booked,1    the row of the history, as";
+    const ASKED: [(&[&str], &str, &str); 16] = [
         (&["--help"], OF_ALL, OF_PLAN),
         (&["plan", "--help"], OF_PLAN, OF_LIVE),
         (&["live", "--help"], OF_LIVE, OF_PLAN),
@@ -276,6 +294,7 @@ fn help_is_written_to_the_output(rt: HostRuntime) {
         (&["check", "--help"], OF_CHECK, OF_PLAN),
         (&["carry", "--help"], OF_CARRY, OF_PLAN),
         (&["inspect", "--help"], OF_INSPECT, OF_PLAN),
+        (&["desk", "--help"], OF_DESK, OF_PLAN),
         (&["help"], OF_ALL, OF_LIVE),
         (&["help", "plan"], OF_PLAN, OF_LIVE),
         (&["help", "live"], OF_LIVE, OF_PLAN),
@@ -283,6 +302,7 @@ fn help_is_written_to_the_output(rt: HostRuntime) {
         (&["help", "check"], OF_CHECK, OF_LIVE),
         (&["help", "carry"], OF_CARRY, OF_LIVE),
         (&["help", "inspect"], OF_INSPECT, OF_LIVE),
+        (&["help", "desk"], OF_DESK, OF_LIVE),
     ];
     for (words, has, lacks) in ASKED {
         let left = left_by(&rt, rt.alloc(), words, Streams::of(""));

@@ -10,6 +10,7 @@ use mrp_explode::{Gate, OpenGate};
 use mrp_rows::Name;
 use sample_shops::{Records, bicycles, bicycles_in_lots, no_records, tower};
 use std::alloc::Global;
+use std::fs::File;
 use std::io::Eprint;
 use std::process::Abort;
 use std::rt::Files;
@@ -111,11 +112,14 @@ fn is_morning<R: Abort + Eprint>(rt: &R, alloc: Global, left: &Left) {
 }
 
 // What the bicycle shop leaves after these calls, with eight workers; the checker finds it right.
-fn morning_by<R: Alloc + Abort + Eprint + Files + Threads + Wait + Sync>(
+fn morning_by<R: AllocGlobal + Abort + Eprint + Files<File = File> + Threads + Wait + Sync>(
     rt: &R,
     alloc: Global,
     script: &str,
-) -> Left {
+) -> Left
+where
+    R::Dir: Send,
+{
     let shop = Records {
         script,
         ..bicycles_in_lots()
@@ -179,11 +183,14 @@ fn turns(alloc: Global, count: usize) -> Result<String, Fail> {
 }
 
 // The day of two desks whose records alternate, as a command makes it.
-fn turns_by<R: Alloc + Abort + Eprint + Files + Threads + Wait + Sync>(
+fn turns_by<R: AllocGlobal + Abort + Eprint + Files<File = File> + Threads + Wait + Sync>(
     rt: &R,
     alloc: Global,
     command: &str,
-) -> Left {
+) -> Left
+where
+    R::Dir: Send,
+{
     let script = made(rt, turns(alloc, 400));
     let shop = Records {
         script: script.as_str(),

@@ -8,6 +8,7 @@ use super::{made, same};
 use mrp_rows::devices::{Act, Stretch, one_else};
 use sample_shops::{Records, bicycles_welded};
 use std::alloc::Global;
+use std::fs::File;
 use std::io::Eprint;
 use std::process::Abort;
 use std::rt::Files;
@@ -54,10 +55,13 @@ fn bundle_of<R: Alloc + Abort + Eprint>(rt: &R, alloc: Global, script: &str) -> 
     made(rt, shop.bundle(alloc))
 }
 
-fn made_texts<R: Alloc + Abort + Eprint + Files + Threads + Wait + Sync>(
+fn made_texts<R: AllocGlobal + Abort + Eprint + Files<File = File> + Threads + Wait + Sync>(
     rt: &R,
     alloc: Global,
-) -> Texts {
+) -> Texts
+where
+    R::Dir: Send,
+{
     made(rt, make_folder(rt));
     let bundle = bundle_of(rt, alloc, SCRIPT);
     let one_desk = bundle_of(rt, alloc, ONE_DESK);
@@ -118,11 +122,14 @@ const GIVEN: usize = 7;
 const TAKEN: usize = 50;
 
 // Fails unless these words say so of each read that fails, the one at the input's end too.
-fn reads_are_told<R: Alloc + Abort + Files + Threads + Wait + Sync>(
+fn reads_are_told<R: AllocGlobal + Abort + Eprint + Files<File = File> + Threads + Wait + Sync>(
     rt: &R,
     alloc: Global,
     case: Case<'_>,
-) {
+)
+where
+    R::Dir: Send,
+{
     let usual = Act::Moves(GIVEN);
     for before in 0..=case.input.len().div_ceil(GIVEN) {
         let stretches = one_else(before as u64, FAILS, usual);
@@ -156,12 +163,15 @@ fn has_front(rt: &impl Abort, left: &Left, output: &str) {
 }
 
 // Fails unless these words say so of each write that does this, the last one too.
-fn writes_are_told<R: Alloc + Abort + Files + Threads + Wait + Sync>(
+fn writes_are_told<R: AllocGlobal + Abort + Eprint + Files<File = File> + Threads + Wait + Sync>(
     rt: &R,
     alloc: Global,
     case: Case<'_>,
     act: Act,
-) {
+)
+where
+    R::Dir: Send,
+{
     let usual = Act::Moves(TAKEN);
     for before in 0..=case.output.len() {
         let stretches = one_else(before as u64, act, usual);
@@ -197,13 +207,16 @@ fn each_write_that_fails_or_takes_nothing_is_told(rt: HostRuntime) {
 const SHORT: &[Stretch] = &[Stretch(1, Act::Moves(7)), Stretch(1, Act::Interrupts)];
 
 // Fails unless these words go on after short and interrupted reads and after such writes.
-fn go_on_after<R: Alloc + Abort + Files + Threads + Wait + Sync>(
+fn go_on_after<R: AllocGlobal + Abort + Eprint + Files<File = File> + Threads + Wait + Sync>(
     rt: &R,
     alloc: Global,
     case: Case<'_>,
     stretches: &[Stretch],
     after: Act,
-) {
+)
+where
+    R::Dir: Send,
+{
     let streams = Streams {
         reads: acts(SHORT, Act::Moves(1)),
         writes: acts(stretches, after),
@@ -239,11 +252,14 @@ const IMPATIENT: &[Stretch] = &[
 ];
 
 // Fails unless these words give up a writer that is interrupted once more.
-fn give_up<R: Alloc + Abort + Files + Threads + Wait + Sync>(
+fn give_up<R: AllocGlobal + Abort + Eprint + Files<File = File> + Threads + Wait + Sync>(
     rt: &R,
     alloc: Global,
     case: Case<'_>,
-) {
+)
+where
+    R::Dir: Send,
+{
     let streams = Streams {
         writes: acts(IMPATIENT, ALL),
         ..Streams::of(case.input)

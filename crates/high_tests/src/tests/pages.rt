@@ -5,6 +5,7 @@ use super::commands::{Left, Streams, has_ended, left_by, output_of};
 use super::{made, same};
 use sample_shops::bicycles;
 use std::alloc::Global;
+use std::fs::File;
 use std::io::Eprint;
 use std::process::Abort;
 use std::rt::Files;
@@ -12,7 +13,13 @@ use std::sync::Wait;
 use std::thread::Threads;
 
 // The day of the bicycle shop.
-fn day<R: Alloc + Abort + Eprint + Files + Threads + Wait + Sync>(rt: &R, alloc: Global) -> String {
+fn day<R: AllocGlobal + Abort + Eprint + Files<File = File> + Threads + Wait + Sync>(
+    rt: &R,
+    alloc: Global,
+) -> String
+where
+    R::Dir: Send,
+{
     let bundle = made(rt, bicycles().bundle(alloc));
     let day = output_of(rt, alloc, &["plan"], &bundle);
     drop(bundle);

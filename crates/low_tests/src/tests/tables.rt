@@ -3,7 +3,7 @@
 use super::same;
 use jiff::civil::date;
 use mrp_cal::Calendar;
-use mrp_rows::{Name, split_bundle};
+use mrp_rows::{Fault, Name, Table, faults, only_row, split_bundle};
 use mrp_tables::{
     BillLine, Centre, Class, Item, LeadUnit, LotRule, MasterKind, MasterRow, Operation, Receipt,
     ScriptCall, ScriptRow, StockRow, Tables,
@@ -328,6 +328,39 @@ fn calls_are_read_with_places_and_weeks(rt: HostRuntime) {
     ];
     let shop = read(&rt, rt.alloc(), SHOP);
     are_calls(&rt, shop.script(), CALLS);
+    drop(shop);
+}
+
+// A line of the script's form as a desk's call in a shop, or its fault.
+fn call_in(
+    rt: &impl Abort,
+    alloc: Global,
+    shop: &Tables,
+    line: &[u8],
+) -> Result<(u64, CallCells), Fault> {
+    let row = only_row(alloc, line, Table::Script, 9, None).expect(rt, "memory");
+    let row = row.expect(rt, "a row");
+    assert!(rt; row.cell_count() == 6);
+    let read = shop.script_row(&row);
+    drop(row);
+    match read {
+        Ok(call) => Ok((call.desk, cells_of(call.call))),
+        Err(fault) => Err(fault),
+    }
+}
+
+#[test]
+fn a_desk_that_stays_open_reads_its_calls(rt: HostRuntime) {
+    const NOT_MASTER: Fault = Fault {
+        code: faults::NOT_MASTER,
+        table: Table::Script,
+        row: 9,
+    };
+    let shop = read(&rt, rt.alloc(), SHOP);
+    let booked = call_in(&rt, rt.alloc(), &shop, b"2,book,BIKE,2025-02-03,25,");
+    same(&rt, booked, Ok((2, ("book", 0, 5, 25))));
+    let refused = call_in(&rt, rt.alloc(), &shop, b"2,book,WHEEL,2025-02-03,25,");
+    same(&rt, refused, Err(NOT_MASTER));
     drop(shop);
 }
 

@@ -36,3 +36,6 @@ returns-clause-some c e =
     let batch : c.extend_from_slice.new.self.items ≡ c.args.begun.now.items ++ lines =
     c.in_ok-extend_from_slice.ensures.items ∙ ap (λ (l : List ℕ). l ++ lines) (c.in_ok-append.ensures.items ∙ ap (λ (l : List ℕ). l ++ c.args.begun.now.items) c.requires.batch) in
     subst IsEnded (sym batch) (ended-behind c.args.begun.now.items lines ended)
+
+pub returns-in_default-clause-waits : goal.returns-in_default-clause-waits
+returns-in_default-clause-waits c = λ e. none-found c.args.given.now c.memrchr.result c.memrchr.ensures c.in_default.not-Some

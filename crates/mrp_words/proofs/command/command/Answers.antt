@@ -19,4 +19,5 @@ returns c =
     let drawn = c.in_ok-subcommand-3.ensures.shape c.in_ok-page_command.ensures.local ∙ ap₂ with_subcommand lived (ap (λ (a : App). a.top) c.in_ok-page_command.ensures.app) in
     let checked = c.in_ok-subcommand-4.ensures.shape c.in_ok-check_command.ensures.local ∙ ap₂ with_subcommand drawn (ap (λ (a : App). a.top) c.in_ok-check_command.ensures.app) in
     let carried = c.in_ok-subcommand-5.ensures.shape c.in_ok-carry_command.ensures.local ∙ ap₂ with_subcommand checked (ap (λ (a : App). a.top) c.in_ok-carry_command.ensures.app) in
-    IfOk-weaker c.subcommand-6.result _ _ (λ r h. h.shape c.in_ok-inspect_command.ensures.local ∙ ap₂ with_subcommand carried (ap (λ (a : App). a.top) c.in_ok-inspect_command.ensures.app)) c.subcommand-6.ensures
+    let inspected = c.in_ok-subcommand-6.ensures.shape c.in_ok-inspect_command.ensures.local ∙ ap₂ with_subcommand carried (ap (λ (a : App). a.top) c.in_ok-inspect_command.ensures.app) in
+    IfOk-weaker c.subcommand-7.result _ _ (λ r h. h.shape c.in_ok-desk_command.ensures.local ∙ ap₂ with_subcommand inspected (ap (λ (a : App). a.top) c.in_ok-desk_command.ensures.app)) c.subcommand-7.ensures

@@ -11,8 +11,8 @@ use Rattle.mrp_words.specs.Words.{dir_among}
 use Rattle.mrp_words.proofs.AskedPage.{both, uninspected}
 use Rattle.mrp_words.proofs.command.uncarried_request.Goals as goal
 
-pub check_or_day-requires : goal.check_or_day-requires
-check_or_day-requires c =
+pub uninspected_request-requires : goal.uninspected_request-requires
+uninspected_request-requires c =
     uninspected c.args.matches.now (λ named. false≢true (sym (ap is_some c.in-None.is) ∙ c.subcommand_matches.ensures.found.1 named)) c.requires
 
 pub returns-in_ok-text_in-in-Some-clause-asked : goal.returns-in_ok-text_in-in-Some-clause-asked

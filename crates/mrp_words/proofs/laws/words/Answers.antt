@@ -268,3 +268,27 @@ returns-clause-no_inspected_folder c = refl
 pub returns-clause-inspected_by_word : goal.returns-clause-inspected_by_word
 unfolding clap_on_literals
 returns-clause-inspected_by_word c = refl
+
+pub returns-clause-desk : goal.returns-clause-desk
+unfolding clap_on_literals
+returns-clause-desk c = refl
+
+pub returns-clause-help_of_desk : goal.returns-clause-help_of_desk
+unfolding clap_on_literals
+returns-clause-help_of_desk c = refl
+
+pub returns-clause-no_desk_folder : goal.returns-clause-no_desk_folder
+unfolding clap_on_literals
+returns-clause-no_desk_folder c = refl
+
+pub returns-clause-no_desk_worker : goal.returns-clause-no_desk_worker
+unfolding clap_on_literals
+returns-clause-no_desk_worker c = refl
+
+pub returns-clause-open_desk : goal.returns-clause-open_desk
+unfolding clap_on_literals
+returns-clause-open_desk c = ((_, refl), refl, record { name = _; rows = _; is = refl; text = codes "1"; given = refl; number = ((omega arith, (omega arith, tt)), omega arith, omega arith, omega arith); value = refl })
+
+pub returns-clause-desk_workers : goal.returns-clause-desk_workers
+unfolding clap_on_literals
+returns-clause-desk_workers c = ((_, refl), refl, record { name = _; rows = _; is = refl; text = codes "8"; given = refl; number = ((omega arith, (omega arith, tt)), omega arith, omega arith, omega arith); value = refl })

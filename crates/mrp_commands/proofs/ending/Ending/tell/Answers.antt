@@ -45,6 +45,26 @@ returns-in-WrongTables-clause-front g c =
     subst (λ (t : List ℕ). OnErr c.write_line-in-WrongTables.result (HasTakenFront g.E.Write.contents c.args.errors.now c.write_line-in-WrongTables.new.errors t)) (sym (ap words_of c.in-WrongTables.is))
     c.write_line-in-WrongTables.ensures.front
 
+pub returns-in-InUse-clause-whole : goal.returns-in-InUse-clause-whole
+returns-in-InUse-clause-whole g c =
+    subst (λ (t : List ℕ). OnOk c.write_line-in-InUse.result (HasTakenAll g.E.Write.contents c.args.errors.now c.write_line-in-InUse.new.errors t)) (sym (ap words_of c.in-InUse.is))
+    c.write_line-in-InUse.ensures.whole
+
+pub returns-in-InUse-clause-front : goal.returns-in-InUse-clause-front
+returns-in-InUse-clause-front g c =
+    subst (λ (t : List ℕ). OnErr c.write_line-in-InUse.result (HasTakenFront g.E.Write.contents c.args.errors.now c.write_line-in-InUse.new.errors t)) (sym (ap words_of c.in-InUse.is))
+    c.write_line-in-InUse.ensures.front
+
+pub returns-in-TablesChanged-clause-whole : goal.returns-in-TablesChanged-clause-whole
+returns-in-TablesChanged-clause-whole g c =
+    subst (λ (t : List ℕ). OnOk c.write_line-in-TablesChanged.result (HasTakenAll g.E.Write.contents c.args.errors.now c.write_line-in-TablesChanged.new.errors t)) (sym (ap words_of c.in-TablesChanged.is))
+    c.write_line-in-TablesChanged.ensures.whole
+
+pub returns-in-TablesChanged-clause-front : goal.returns-in-TablesChanged-clause-front
+returns-in-TablesChanged-clause-front g c =
+    subst (λ (t : List ℕ). OnErr c.write_line-in-TablesChanged.result (HasTakenFront g.E.Write.contents c.args.errors.now c.write_line-in-TablesChanged.new.errors t)) (sym (ap words_of c.in-TablesChanged.is))
+    c.write_line-in-TablesChanged.ensures.front
+
 pub returns-in-NoRun-clause-whole : goal.returns-in-NoRun-clause-whole
 returns-in-NoRun-clause-whole g c =
     subst (λ (t : List ℕ). OnOk c.write_line-in-NoRun.result (HasTakenAll g.E.Write.contents c.args.errors.now c.write_line-in-NoRun.new.errors t)) (sym (ap words_of c.in-NoRun.is))

@@ -3,9 +3,9 @@ use Rattle.std.specs.Prelude.{IfSome}
 use Rattle.std.specs.Io.KnownBytes.{Consumes}
 use Rattle.std.proofs.lemmas.Grind.{common_steps}
 use Rattle.mrp_rows.specs.Told.{inner_of}
-use Rattle.mrp_intake.specs.Intake.{BringsKnown, Taken}
+use Rattle.mrp_intake.specs.Intake.{BringsKnown, ReadsOn, Taken}
 use Rattle.mrp_intake.specs.Lines.{told_lines}
-use Rattle.mrp_intake.proofs.ToldLines.{ToCome, to-come-brings, to-come-end, to-come-kept, to-come-on}
+use Rattle.mrp_intake.proofs.ToldLines.{ToCome, ended-some, reads-kept, reads-more, to-come-brings, to-come-end, to-come-kept, to-come-on}
 use Rattle.mrp_intake.proofs.intake.Intake.next_batch.Goals as goal
 use Rattle.mrp_intake.proofs.intake.Intake.next_batch.Goals.{in-Some+in_ok-take_piece-in-Some+else-branch, in-None}
 
@@ -40,7 +40,7 @@ loop-preserved g c =
     let first = g.R.Read.remaining (inner_of c.args.reader.now) in
     let now = g.R.Read.remaining (inner_of c.loop.reader) in
     let next = g.R.Read.remaining (inner_of c.read_once.new.reader) in
-    let kept : (c.match-branch-2.self.batch ≡ []) × ToCome c.args.self.now.begun first c.match-branch-2.self.begun next =
+    let kept : (c.match-branch-2.self.batch ≡ []) × ToCome c.args.self.now.begun first c.match-branch-2.self.begun next × ReadsOn first next =
     elim c.match-branch-2.branch [
       | in-Some+in_ok-take_piece-in-Some+else-branch w ↦
           let new : Taken = record { batch = w.take_piece.new.batch.items; begun = w.take_piece.new.begun.items } in
@@ -53,19 +53,30 @@ loop-preserved g c =
           (λ after. ap (λ (l : List ℕ). told_lines (l ++ w.split_at.result.0.now ++ after)) (sym inside) ∙ w.in_ok-take_piece-in-Some.ensures.brings after) in
           let ended = w.if-branch.false in
           let was = w.in_ok-take_piece-in-Some.was in
-          let none : new.batch ≡ [] = w.in_ok-take_piece-in-Some.ensures.none (cc) in
-          (ap (λ (t : Taken). t.batch) is ∙ none, subst (λ (t : Taken). ToCome c.args.self.now.begun first t.begun next) (sym is) (to-come-on c.args.self.now new first next brings none))
+          let none : new.batch ≡ [] = w.in_ok-take_piece-in-Some.ensures.none (cc) in (
+            ap (λ (t : Taken). t.batch) is ∙ none,
+            subst (λ (t : Taken). ToCome c.args.self.now.begun first t.begun next) (sym is) (to-come-on c.args.self.now new first next brings none),
+            reads-more first now next w.split_at.result.0.now c.loop.invariant.waits consumed (w.in_ok-take_piece-in-Some.ensures.waits (cc)),
+          )
       | in-None w ↦
           let is : c.match-branch-2.self ≡ c.loop.self = w.self-is in
           let empty = w.in-None.is in
           let was = c.in_ok-read_once.was in (
             ap (λ (t : Taken). t.batch) is ∙ c.loop.invariant.batch,
             subst (λ (t : Taken). ToCome c.args.self.now.begun first t.begun next) (sym is) (to-come-kept c.args.self.now.begun c.loop.self.begun first now next c.loop.invariant.brings (c.in_ok-read_once.ensures.nothing (cc))),
+            reads-kept first now next c.loop.invariant.waits (c.in_ok-read_once.ensures.nothing (cc)),
           )
     ] in
     record {
       batch = kept.0;
       brings = kept.1;
+      waits = kept.2;
       failures = c.in_ok-read_once.ensures.failures ∙ c.loop.invariant.failures;
       calls = omega (arith, c.loop.invariant.calls, c.in_ok-read_once.ensures.calls);
     }
+
+pub returns-then-branch-clause-some : goal.returns-then-branch-clause-some
+returns-then-branch-clause-some g c e =
+    let done = c.if-branch.true in
+    let was = c.in_ok-take_piece-in-Some.was in
+    ended-some c.take_piece.new.batch.items (c.in_ok-take_piece-in-Some.ensures.some (cc))

@@ -1,0 +1,80 @@
+//! The records of any text, and a text's only record.
+
+ghost use Rattle.std.specs.Prelude.{◌≡◌, length};
+
+use super::same;
+use mrp_rows::{Record, Records, Row, Table, only_row};
+use std::alloc::Global;
+use std::process::Abort;
+
+// A byte order mark, a header, an empty line, quotes, and records of one cell and of five.
+const TEXT: &[u8] = b"\xEF\xBB\xBFitem,onhand\r\n\r\n\"a\"\"b\",2,,\"\"\nc\n,,x,,\n";
+
+// Of each record the count of its cells, the first two, and whether the others are empty.
+const KEPT: &[(usize, &[u8], &[u8], bool)] = &[
+    (2, b"item", b"onhand", true),
+    (4, b"a\"b", b"2", true),
+    (1, b"c", b"", true),
+    (5, b"", b"", false),
+];
+
+// Fails unless a record has these, and keeps no third cell.
+fn is_kept(rt: &impl Abort, record: &Record, want: (usize, &[u8], &[u8], bool)) {
+    let others = record.are_others_empty();
+    let got = (record.count(), record.cell(0), record.cell(1), others);
+    same(rt, (got, record.cell(2)), (want, b"".as_slice()));
+}
+
+#[test]
+fn records_have_their_first_cells(rt: HostRuntime) {
+    let mut records = Records::of(TEXT);
+    let mut row = Record::new(rt.alloc());
+    for want in KEPT {
+        same(&rt, records.next(2, &mut row), Ok(true));
+        let copy = row.clone().expect(&rt, "memory");
+        is_kept(&rt, &copy, *want);
+        drop(copy);
+    }
+    same(&rt, records.next(2, &mut row), Ok(false));
+    drop((records, row));
+}
+
+// The only record of a text as one of the script's, with the memory of another.
+fn only(rt: &impl Abort, alloc: Global, text: &[u8], spare: Option<Row>) -> Option<Row> {
+    only_row(alloc, text, Table::Script, 7, spare).expect(rt, "memory")
+}
+
+#[test]
+fn a_line_is_a_row_of_the_script(rt: HostRuntime) {
+    const TEXTS: &[(&[u8], bool)] = &[
+        (b"1,run,,,,", true),
+        (b"1,run,,,,\n", true),
+        (b"\xEF\xBB\xBF\n1,run,,,,\r\n\r\n", true),
+        (b"\"1\n\",run,,,,", true),
+        (b"", false),
+        (b"\n", false),
+        (b"1,run,,,", false),
+        (b"1,run,,,,,", false),
+        (b"1,run,,,,\n2,run,,,,\n", false),
+    ];
+    for (text, is_row) in TEXTS {
+        let row = only(&rt, rt.alloc(), text, None);
+        same(&rt, row.is_some(), *is_row);
+        drop(row);
+    }
+}
+
+// Fails unless a row has these as its second and third cells.
+fn has_cells(rt: &impl Abort, row: &Row, want: (&[u8], &[u8])) {
+    assert!(rt; row.cell_count() == 6);
+    same(rt, (row.cell(1), row.cell(2)), want);
+}
+
+#[test]
+fn a_row_reuses_the_memory_of_another(rt: HostRuntime) {
+    let first = only(&rt, rt.alloc(), b"64,\"bo\"\"ok\",A,,,", None).expect(&rt, "a row");
+    has_cells(&rt, &first, (b"bo\"ok", b"A"));
+    let second = only(&rt, rt.alloc(), b"1,run,,,,", Some(first)).expect(&rt, "a row");
+    has_cells(&rt, &second, (b"run", b""));
+    drop(second);
+}

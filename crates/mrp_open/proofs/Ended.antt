@@ -1,0 +1,84 @@
+-- How an order desk on a folder ends.
+use Rattle.std.proofs.Common.{◌≡◌, ◌∙◌, ◌⊎◌, ℕ, true, List, Option, Result, Ok, Err, inl, inr, length, subst, sym}
+use Rattle.std.specs.Prelude.{IfErr, IfOk, IsErrAnd, IsTrue, string_bytes}
+use Rattle.mrp_rows.specs.declared.told.Told.{Told}
+use Rattle.mrp_tables.specs.Tables.{Tables}
+use Rattle.mrp_script.specs.Script.{script_of}
+use Rattle.mrp_words.specs.Folder.{Known}
+use Rattle.mrp_calls.specs.Desk.{Desk}
+use Rattle.mrp_commands.specs.declared.ending.Ending.{Ending}
+use Rattle.mrp_commands.specs.declared.ending.Ending.TheVariants as ending
+use Rattle.mrp_open.specs.Ends.{FailsToBegin, FailsToStart, FailsWithLock, IsServed, ServesOn, TellsEnd, cut_of}
+use Rattle.mrp_open.specs.Opening.{IsUntouched, Opening}
+use Rattle.mrp_open.specs.Served.{FailsToRead}
+use Rattle.mrp_open.specs.Start.{AnswersJournal, AreUnchanged, FailsToOpen, HasOtherSum, IsPrepared}
+use Rattle.mrp_open.specs.declared.finding.Found.{Found}
+
+module _ {R W E : Type 0} (opened : Opening) (known : Known) (folder : List ℕ) (remaining : R → Option (List ℕ)) (contents : W → Option (List ℕ)) (heard : E → Option (List ℕ)) (input read : Told R) (output written : Told W) (errors told : Told E) where
+  -- a desk that was opened has answered lines, and told its cut and its end
+  pub is-served : (found : Found) (tables : Tables) (old : Desk) (cut : Option ℕ) (r : Result Ending Ending) → opened.is_held ≡ true → opened.is_lasting ≡ true
+      → IsPrepared known folder found tables → IsTrue found.takes_records → AnswersJournal tables found.room old → AreUnchanged known folder (length old.entries) (string_bytes found.sum) → cut ≡ cut_of found (length old.entries)
+      → IfOk r (λ end. (new : Desk) × ServesOn known folder remaining contents input output written old new end) → IfOk r (TellsEnd heard errors told cut)
+      → IfOk r (λ end. end ≡ ending.Read → FailsToRead input read) → IfOk r (IsServed opened known folder remaining contents heard input read output written errors told)
+  is-served found tables old cut (Err end) held lasting prepared takes answers unchanged is serves tells fails = tt
+  is-served found tables old cut (Ok end) held lasting prepared takes answers unchanged is (new, serves) tells fails = record {
+    held = held;
+    lasting = lasting;
+    found = found;
+    tables = tables;
+    old = old;
+    new = new;
+    prepared = prepared;
+    takes = takes;
+    answers = answers;
+    unchanged = unchanged;
+    serves = serves;
+    fails = fails;
+    tells = subst (λ (c : Option ℕ). TellsEnd heard errors told c end) is tells;
+  }
+
+-- a journal that was not opened before a folder was locked
+pub untouched-since : (first before opened : Opening) (r : Result Ending Ending) → before.is_opened ≡ first.is_opened → IfErr r (IsUntouched before opened) → IfErr r (IsUntouched first opened)
+untouched-since first before opened (Ok end) same is = tt
+untouched-since first before opened (Err end) same (inl touching) = inl touching
+untouched-since first before opened (Err end) same (inr is) = inr (is ∙ same)
+
+-- one without memory
+pub no-memory-touching : (before opened : Opening) (r : Result Ending Ending) → IfErr r (λ end. end ≡ ending.NoMemory) → IfErr r (IsUntouched before opened)
+no-memory-touching before opened (Ok end) is = tt
+no-memory-touching before opened (Err end) is = inl (inl is)
+
+-- one that started from the same opening, or from one since which nothing was opened
+pub starts-since : (known : Known) (folder : List ℕ) (first before opened : Opening) (r : Result Ending Ending) → before ≡ first → IfErr r (FailsToStart before opened known folder) → IfErr r (FailsToStart first opened known folder)
+starts-since known folder first before opened r same fails = subst (λ (o : Opening). IfErr r (FailsToStart o opened known folder)) same fails
+
+-- what holds of an end holds where it is passed on
+pub passed-on : {T : Type 0} (r : Result T Ending) (end : Ending) (P : Ending → Type 0) → IsErrAnd r (λ e. e ≡ end) → P end → IfErr r P
+passed-on (Ok x) end P is p = tt
+passed-on (Err e) end P is p = subst P (sym is) p
+
+module _ (known : Known) (folder : List ℕ) where
+  module _ (opened : Opening) where
+    -- one whose folder was not opened
+    pub not-opened : (end : Ending) → opened.is_held ≡ true → FailsToOpen known folder end → FailsWithLock opened known folder end
+    not-opened end held fails = record { held = held; fails = inl fails }
+
+    -- one that did not begin
+    pub not-begun : (found : Found) (tables : Tables) (end : Ending) → opened.is_held ≡ true → IsPrepared known folder found tables → FailsToBegin known folder found tables end → FailsWithLock opened known folder end
+    not-begun found tables end held prepared fails = record { held = held; fails = inr (found, tables, prepared, fails) }
+
+    -- one without memory
+    pub no-memory : (r : Result Ending Ending) → opened.is_held ≡ true → IfErr r (λ end. end ≡ ending.NoMemory) → IfErr r (FailsWithLock opened known folder)
+    no-memory (Ok end) held is = tt
+    no-memory (Err end) held is = record { held = held; fails = inl (inr (inr is)) }
+
+    -- one that had the lock
+    pub with-lock : (before : Opening) (r : Result Ending Ending) → IfErr r (IsUntouched before opened) → IfErr r (FailsWithLock opened known folder) → IfErr r (FailsToStart before opened known folder)
+    with-lock before (Ok end) untouched fails = tt
+    with-lock before (Err end) untouched fails = record { untouched = untouched; fails = inr fails }
+
+  module _ (found : Found) (tables : Tables) where
+    -- one whose tables have another sum
+    pub other-sum : (records : ℕ) (end : Ending) → IsTrue found.takes_records → records ≡ length (script_of tables) → HasOtherSum known folder records (string_bytes found.sum) end → FailsToBegin known folder found tables end
+    other-sum records end takes count other =
+        inr (takes, inl (subst (λ (n : ℕ). HasOtherSum known folder n (string_bytes found.sum) end) count other))

@@ -1,0 +1,9 @@
+pub mod Ended
+pub mod Failing
+pub mod Folders
+pub mod Making
+pub mod OpenFolders
+pub mod Runs
+pub mod Settled
+pub mod Starting
+pub mod Told

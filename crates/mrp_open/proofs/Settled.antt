@@ -1,0 +1,314 @@
+-- Batches are settled one after the other.
+use Rattle.std.proofs.Common.{◌≡◌, ◌∙◌, ◌⊎◌, ◌≤◌, ℕ, Bool, true, false, List, [], ◌∷◌, ◌++◌, Option, Some, None, inl, inr, ap, append_assoc, arith, drop, length, length-append, map, refl, subst, sym}
+use Rattle.std.proofs.Math.Seq.{drop-append_seam}
+use Rattle.std.proofs.lemmas.List.{append-nil}
+use Rattle.std.specs.Prelude.{IfSome, option_map}
+use Rattle.std.specs.Bool.{MatchBool}
+use Rattle.std.specs.Io.KnownBytes.{Appends, IsAtEnd}
+use Rattle.std.specs.List.{FoldsTo}
+use Rattle.mrp_rows.specs.declared.fault.Fault.{Fault}
+use Rattle.mrp_rows.specs.declared.streams.ReadFault.{ReadFault}
+use Rattle.mrp_rows.specs.declared.streams.ReadFault.TheVariants as read
+use Rattle.mrp_rows.specs.Left.{Cells}
+use Rattle.mrp_tables.specs.declared.rows.ScriptRow.{ScriptRow}
+use Rattle.mrp_turn.specs.declared.log.Entry.{Entry}
+use Rattle.mrp_book.specs.declared.call.Call.{Call}
+use Rattle.mrp_book.specs.declared.reply.Reply.{Reply}
+use Rattle.mrp_book.specs.History.{next_number}
+use Rattle.mrp_book.specs.Standing.{History}
+use Rattle.mrp_intake.specs.Intake.{BringsKnown, Taken}
+use Rattle.mrp_intake.specs.Lines.{lines_of, told_lines, told_of}
+use Rattle.mrp_journal.specs.Held.{Held, IsSettled, settled}
+use Rattle.mrp_journal.specs.Journal.{with_more}
+use Rattle.mrp_calls.specs.Answers.{Answers, AnswersCall, AnswersLine, Stays, entry_of, full_text, no_memory_text, refusal_text}
+use Rattle.mrp_calls.specs.Desk.{Desk, is_full}
+use Rattle.mrp_calls.specs.LineCall.{call_of_line}
+use Rattle.std.specs.Prelude.{Result, Ok, Err}
+use Rattle.mrp_commands.specs.Refusal.{end_of_read}
+use Rattle.mrp_commands.specs.declared.ending.Ending.{Ending}
+use Rattle.mrp_commands.specs.declared.ending.Ending.TheVariants as ending
+use Rattle.mrp_open.specs.Runs.{HandsOver, HandsOverAll}
+use Rattle.mrp_open.specs.Served.{Advances, BringsLines, Fails, HandsMore, IsBatchEnd, IsServingEnd, Serves, Settles, SettlesRuns, Stand, Stops, StopsAt}
+
+-- What lines do to a desk.
+
+-- it has entries more, and the same tables
+pub record Grows (old new : Desk) : Type 0 where
+  pub more : History
+  pub is : new.entries ≡ old.entries ++ more
+  pub same : new.tables ≡ old.tables
+
+grows-none : (old new : Desk) → new ≡ old → Grows old new
+grows-none old new e = record { more = []; is = ap (λ (d : Desk). d.entries) e ∙ sym (append-nil old.entries); same = ap (λ (d : Desk). d.tables) e }
+
+grows-both : (old mid new : Desk) → Grows old mid → Grows mid new → Grows old new
+grows-both old mid new p q = record {
+  more = p.more ++ q.more;
+  is = q.is ∙ ap (λ (h : History). h ++ q.more) p.is ∙ append_assoc old.entries p.more q.more;
+  same = q.same ∙ p.same;
+}
+
+grows-call : (call : Result (Cells × ScriptRow) Fault) (old new : Desk) (answer written : List ℕ) → AnswersCall call old answer written new → Grows old new
+grows-call (Ok call) old new answer written h =
+    record { more = entry_of call.1 h.reply ∷ []; is = ap (λ (d : Desk). d.entries) h.after; same = ap (λ (d : Desk). d.tables) h.after }
+grows-call (Err f) old new answer written h = grows-none old new h.same
+
+grows-tried : (call : Result (Cells × ScriptRow) Fault) (old new : Desk) (answer written : List ℕ) → AnswersCall call old answer written new ⊎ Stays no_memory_text old answer written new → Grows old new
+grows-tried call old new answer written (inl h) = grows-call call old new answer written h
+grows-tried call old new answer written (inr h) = grows-none old new h.same
+
+grows-line : (line : List ℕ) (old new : Desk) (answer written : List ℕ) → AnswersLine line old answer written new → Grows old new
+grows-line line old new answer written h = by (is_full old) h
+  where
+    by : (b : Bool)
+        → MatchBool b (Stays full_text old answer written new) (AnswersCall (call_of_line old.tables (next_number old.entries) line) old answer written new ⊎ Stays no_memory_text old answer written new)
+        → Grows old new
+    by true is = grows-none old new is.same
+    by false is = grows-tried (call_of_line old.tables (next_number old.entries) line) old new answer written is
+
+pub grows : (lines : List (List ℕ)) (old new : Desk) (answers written : List ℕ) → Answers lines old answers written new → Grows old new
+grows [] old new answers written (no_answers, no_records, same) = grows-none old new same
+grows (line ∷ lines) old new answers written (next, answer, more_answers, record_of, more_records, one, rest, a, r) =
+    grows-both old next new (grows-line line old next answer record_of one) (grows lines next new more_answers more_records rest)
+
+-- Lines, and then more, are settled.
+
+appends-none : (a : Option (List ℕ)) → Appends a a []
+appends-none None = tt
+appends-none (Some x) = sym (append-nil x)
+
+appends-both : (a b c : Option (List ℕ)) (s t : List ℕ) → Appends a b s → Appends b c t → Appends a c (s ++ t)
+appends-both None b c s t p q = tt
+appends-both (Some x) None c s t p q = absurd p
+appends-both (Some x) (Some y) None s t p q = absurd q
+appends-both (Some x) (Some y) (Some z) s t p q = q ∙ ap (λ (l : List ℕ). l ++ t) p ∙ append_assoc x s t
+
+-- lines, and then more, are answered
+answers-both : (one two : List (List ℕ)) (old mid new : Desk) (a b r s : List ℕ) → Answers one old a r mid → Answers two mid b s new → Answers (one ++ two) old (a ++ b) (r ++ s) new
+answers-both [] two old mid new a b r s (no_answers, no_records, same) q =
+    let from_old : Answers two old b s new = subst (λ (d : Desk). Answers two d b s new) same q in
+    let with_answers : Answers two old (a ++ b) s new = subst (λ (x : List ℕ). Answers two old (x ++ b) s new) (sym no_answers) from_old in
+    subst (λ (x : List ℕ). Answers two old (a ++ b) (x ++ s) new) (sym no_records) with_answers
+answers-both (line ∷ lines) two old mid new a b r s (next, answer, more_a, written, more_r, one, rest, a_is, r_is) q = (
+  next,
+  answer,
+  more_a ++ b,
+  written,
+  more_r ++ s,
+  one,
+  answers-both lines two next mid new more_a b more_r s rest q,
+  ap (λ (x : List ℕ). x ++ b) a_is ∙ append_assoc answer more_a b,
+  ap (λ (x : List ℕ). x ++ s) r_is ∙ append_assoc written more_r s,
+)
+
+-- a journal that is durable, with nothing more
+kept-none : (h : Option Held) → IfSome h IsSettled → h ≡ option_map (with_more []) h
+kept-none None is = refl
+kept-none (Some h) is = ap (λ (x : Held). Some x) (is ∙ ap settled (sym (append-nil h.bytes)))
+
+-- with these records behind it, and then with more
+kept-both : (a b c : Option Held) (r s : List ℕ) → b ≡ option_map (with_more r) a → c ≡ option_map (with_more s) b → c ≡ option_map (with_more (r ++ s)) a
+kept-both None b c r s p q = q ∙ ap (option_map (with_more s)) p
+kept-both (Some h) b c r s p q = q ∙ ap (option_map (with_more s)) p ∙ ap (λ (x : List ℕ). Some (settled x)) (append_assoc h.bytes r s)
+
+-- no line is settled yet
+settles-none : (old : Stand) → IfSome old.journal IsSettled → Settles [] old old
+settles-none old is = record { answers = []; records = []; answered = (refl, refl, refl); kept = kept-none old.journal is; told = appends-none old.output }
+
+-- lines are settled, and then more
+settles-both : (one two : List (List ℕ)) (old mid new : Stand) → Settles one old mid → Settles two mid new → Settles (one ++ two) old new
+settles-both one two old mid new p q = record {
+  answers = p.answers ++ q.answers;
+  records = p.records ++ q.records;
+  answered = answers-both one two old.desk mid.desk new.desk p.answers q.answers p.records q.records p.answered q.answered;
+  kept = kept-both old.journal mid.journal new.journal p.records q.records p.kept q.kept;
+  told = appends-both old.output mid.output new.output p.answers q.answers p.told q.told;
+}
+
+durable-kept : (a b : Option Held) (records : List ℕ) → b ≡ option_map (with_more records) a → IfSome b IsSettled
+durable-kept None b records e = subst (λ (x : Option Held). IfSome x IsSettled) (sym e) tt
+durable-kept (Some h) b records e = subst (λ (x : Option Held). IfSome x IsSettled) (sym e) refl
+
+-- Runs that are told.
+
+folds-both : {P A : Type 0} (R : P → A → P → Type 0) (a : P) (xs : List A) (b : P) (ys : List A) (c : P) → FoldsTo R a xs b → FoldsTo R b ys c → FoldsTo R a (xs ++ ys) c
+folds-both {P} R a [] b ys c p q = subst (λ (v : P). FoldsTo R v ys c) (sym p) q
+folds-both R a (x ∷ xs) b ys c (next, one, rest) q = (next, one, folds-both R next xs b ys c rest q)
+
+-- the entries that a desk has made since
+pub hands-since : (old new : Desk) (told_old told_new : Option (List ℕ)) → Grows old new → HandsOverAll (drop (length old.entries) new.entries) told_old told_new → HandsMore old.entries new.entries told_old told_new
+hands-since old new told_old told_new g h = record {
+  more = g.more;
+  is = g.is;
+  handed = subst (λ (es : History). HandsOverAll es told_old told_new) (ap (drop (length old.entries)) g.is ∙ drop-append_seam old.entries g.more) h;
+}
+
+pub hands-none : (h : History) (told : Option (List ℕ)) → HandsMore h h told told
+hands-none h told = record { more = []; is = sym (append-nil h); handed = refl }
+
+hands-both : (old mid new : History) (a b c : Option (List ℕ)) → HandsMore old mid a b → HandsMore mid new b c → HandsMore old new a c
+hands-both old mid new a b c p q = record {
+  more = p.more ++ q.more;
+  is = q.is ∙ ap (λ (h : History). h ++ q.more) p.is ∙ append_assoc old p.more q.more;
+  handed = folds-both (λ (told : Option (List ℕ)) (e : Entry Call Reply) (next : Option (List ℕ)). HandsOver e.reply told next) a p.more b q.more c p.handed q.handed;
+}
+
+-- Lines that come.
+
+brings-none : (given : Option (List ℕ)) → BringsLines [] given [] [] given
+brings-none None = tt
+brings-none (Some text) = refl
+
+brings-both : (b1 b2 b3 : List ℕ) (g1 g2 g3 : Option (List ℕ)) (one two : List (List ℕ)) → BringsLines b1 g1 one b2 g2 → BringsLines b2 g2 two b3 g3 → BringsLines b1 g1 (one ++ two) b3 g3
+brings-both b1 b2 b3 None g2 g3 one two p q = tt
+brings-both b1 b2 b3 (Some x) None g3 one two p q = absurd p
+brings-both b1 b2 b3 (Some x) (Some y) None one two p q = absurd q
+brings-both b1 b2 b3 (Some x) (Some y) (Some z) one two p q = p ∙ ap (λ (ls : List (List ℕ)). one ++ ls) q ∙ sym (append_assoc one two (told_lines (b3 ++ z)))
+
+-- a batch that an intake brings
+pub brings-batch : (old new : Taken) (before after : Option (List ℕ)) → BringsKnown old new before after → BringsLines old.begun before (told_lines new.batch) new.begun after
+brings-batch old new None after h = tt
+brings-batch old new (Some x) None h = absurd h
+brings-batch old new (Some x) (Some y) h = h
+
+-- the lines that are still to come
+abbrev left_lines : List ℕ → Option (List ℕ) → List (List ℕ)
+left_lines begun None = []
+left_lines begun (Some text) = told_lines (begun ++ text)
+
+brings-rest : (b1 b2 : List ℕ) (given left : Option (List ℕ)) (lines : List (List ℕ)) → BringsLines b1 given lines b2 left → IfSome given (λ text. told_lines (b1 ++ text) ≡ lines ++ left_lines b2 left)
+brings-rest b1 b2 None left lines h = tt
+brings-rest b1 b2 (Some x) None lines h = absurd h
+brings-rest b1 b2 (Some x) (Some y) lines h = h
+
+-- An order desk goes on, and stops.
+
+-- nothing was read yet
+pub advances-none : (given : Option (List ℕ)) (old : Stand) (told : Option (List ℕ)) → IfSome old.journal IsSettled → Advances [] given [] given old old told told
+advances-none given old told is = record { lines = []; brings = brings-none given; settles = record { settled = settles-none old is; handed = hands-none old.desk.entries told } }
+
+-- one batch more
+pub advances-both : (b1 b2 b3 : List ℕ) (g1 g2 g3 : Option (List ℕ)) (old mid new : Stand) (t1 t2 t3 : Option (List ℕ))
+    → Advances b1 g1 b2 g2 old mid t1 t2 → Advances b2 g2 b3 g3 mid new t2 t3 → Advances b1 g1 b3 g3 old new t1 t3
+advances-both b1 b2 b3 g1 g2 g3 old mid new t1 t2 t3 p q = record {
+  lines = p.lines ++ q.lines;
+  brings = brings-both b1 b2 b3 g1 g2 g3 p.lines q.lines p.brings q.brings;
+  settles = record {
+    settled = settles-both p.lines q.lines old mid new p.settles.settled q.settles.settled;
+    handed = hands-both old.desk.entries mid.desk.entries new.desk.entries t1 t2 t3 p.settles.handed q.settles.handed;
+  };
+}
+
+-- what was settled is durable
+pub advances-durable : (b1 b2 : List ℕ) (g1 g2 : Option (List ℕ)) (old new : Stand) (t1 t2 : Option (List ℕ)) → Advances b1 g1 b2 g2 old new t1 t2 → IfSome new.journal IsSettled
+advances-durable b1 b2 g1 g2 old new t1 t2 p = durable-kept old.journal new.journal p.settles.settled.records p.settles.settled.kept
+
+-- the tables stay
+pub advances-tables : (b1 b2 : List ℕ) (g1 g2 : Option (List ℕ)) (old new : Stand) (t1 t2 : Option (List ℕ)) → Advances b1 g1 b2 g2 old new t1 t2 → new.desk.tables ≡ old.desk.tables
+advances-tables b1 b2 g1 g2 old new t1 t2 p =
+    let g : Grows old.desk new.desk = grows p.lines old.desk new.desk p.settles.settled.answers p.settles.settled.records p.settles.settled.answered in
+    g.same
+
+-- a batch was settled, and the runs behind the entries before were told
+pub settles-runs : (lines : List (List ℕ)) (old new : Stand) (t1 t2 : Option (List ℕ)) → Settles lines old new → HandsOverAll (drop (length old.desk.entries) new.desk.entries) t1 t2 → SettlesRuns lines old new t1 t2
+settles-runs lines old new t1 t2 s h =
+    record { settled = s; handed = hands-since old.desk new.desk t1 t2 (grows lines old.desk new.desk s.answers s.records s.answered) h }
+
+-- a batch was read and settled
+pub advances-batch : (old_intake new_intake : Taken) (before after : Option (List ℕ)) (old new : Stand) (t1 t2 : Option (List ℕ))
+    → BringsKnown old_intake new_intake before after → SettlesRuns (told_lines new_intake.batch) old new t1 t2 → Advances old_intake.begun before new_intake.begun after old new t1 t2
+advances-batch old_intake new_intake before after old new t1 t2 b s =
+    record { lines = told_lines new_intake.batch; brings = brings-batch old_intake new_intake before after b; settles = s }
+
+-- the input has ended
+lines-none : lines_of [] ≡ []
+unfolding lines_of
+lines-none = refl
+
+ended : (old new : Taken) (before after : Option (List ℕ)) → BringsKnown old new before after → new.batch ≡ [] → new.begun ≡ [] → IsAtEnd after → IfSome before (λ text. told_lines (old.begun ++ text) ≡ [])
+ended old new None after h batch begun at = tt
+ended old new (Some x) None h batch begun at = absurd h
+ended old new (Some x) (Some y) h batch begun at =
+    let none : told_lines [] ≡ [] = ap (map told_of) lines-none in
+    let read : told_lines new.batch ≡ [] = ap told_lines batch ∙ none in
+    let rest : told_lines (new.begun ++ y) ≡ [] = ap (λ (b : List ℕ). told_lines (b ++ y)) begun ∙ ap told_lines at ∙ none in
+    h ∙ ap (λ (ls : List (List ℕ)). ls ++ told_lines (new.begun ++ y)) read ∙ rest
+
+pub stops-done : (old_intake new_intake : Taken) (before after : Option (List ℕ)) (old : Stand)
+    → BringsKnown old_intake new_intake before after → new_intake.batch ≡ [] → new_intake.begun ≡ [] → IsAtEnd after → StopsAt old_intake.begun before old old ending.Done
+stops-done old_intake new_intake before after old b batch begun at = record {
+  lines = [];
+  rest = [];
+  given_are = ended old_intake new_intake before after b batch begun at;
+  stopped = inl refl;
+  all = λ _. (refl, refl, refl);
+  ends = inl refl;
+}
+
+left-all : (begun : List ℕ) (given : Option (List ℕ)) → IfSome given (λ text. told_lines (begun ++ text) ≡ [] ++ left_lines begun given)
+left-all begun None = tt
+left-all begun (Some text) = refl
+
+serving-read : (fault : ReadFault) (end : Ending) → end ≡ end_of_read fault → IsServingEnd end × (end ≡ ending.Done → ⊥)
+serving-read read.Read end is = (inr (inr (inl is)), λ (done : end ≡ ending.Done). cc)
+serving-read read.NoMemory end is = (inr (inl is), λ (done : end ≡ ending.Done). cc)
+
+-- a read has failed
+pub stops-read : (begun : List ℕ) (given : Option (List ℕ)) (old : Stand) (fault : ReadFault) (end : Ending) → end ≡ end_of_read fault → StopsAt begun given old old end
+stops-read begun given old fault end is = record {
+  lines = [];
+  rest = left_lines begun given;
+  given_are = left-all begun given;
+  stopped = inl refl;
+  all = λ done. absurd ((serving-read fault end is).1 done);
+  ends = (serving-read fault end is).0;
+}
+
+serving-batch : (end : Ending) → IsBatchEnd end → IsServingEnd end × (end ≡ ending.Done → ⊥)
+serving-batch end (inl is) = (inr (inl is), λ (done : end ≡ ending.Done). cc)
+serving-batch end (inr is) = (inr (inr (inr is)), λ (done : end ≡ ending.Done). cc)
+
+-- a batch was not settled
+pub stops-batch : (old_intake new_intake : Taken) (before after : Option (List ℕ)) (old new : Stand) (end : Ending)
+    → BringsKnown old_intake new_intake before after → Fails (told_lines new_intake.batch) old new end → StopsAt old_intake.begun before old new end
+stops-batch old_intake new_intake before after old new end b s = record {
+  lines = told_lines new_intake.batch;
+  rest = left_lines new_intake.begun after;
+  given_are = brings-rest old_intake.begun new_intake.begun before after (told_lines new_intake.batch) (brings-batch old_intake new_intake before after b);
+  stopped = s.stopped;
+  all = λ done. absurd ((serving-batch end s.ends).1 done);
+  ends = (serving-batch end s.ends).0;
+}
+
+given-both : (begun : List ℕ) (given left : Option (List ℕ)) (lines more rest : List (List ℕ)) → BringsLines [] given lines begun left → IfSome left (λ text. told_lines (begun ++ text) ≡ more ++ rest)
+    → IfSome given (λ text. told_lines text ≡ lines ++ (more ++ rest))
+given-both begun None left lines more rest p q = tt
+given-both begun (Some x) None lines more rest p q = absurd p
+given-both begun (Some x) (Some y) lines more rest p q = p ∙ ap (λ (ls : List (List ℕ)). lines ++ ls) q
+
+-- an order desk went on, and then stopped
+pub serves : (given left : Option (List ℕ)) (begun : List ℕ) (old between new : Stand) (told_old told_new : Option (List ℕ)) (end : Ending)
+    → Advances [] given begun left old between told_old told_new → StopsAt begun left between new end → Serves given old new told_old told_new end
+serves given left begun old between new told_old told_new end p q = record {
+  lines = p.lines;
+  more = q.lines;
+  rest = q.rest;
+  between = between;
+  settles = p.settles;
+  stopped = q.stopped;
+  given_are = given-both begun given left p.lines q.lines q.rest p.brings q.given_are;
+  all = q.all;
+  ends = q.ends;
+}
+
+-- entries stay
+pub at-least : (lines : List (List ℕ)) (old new : Stand) → Settles lines old new → length old.desk.entries ≤ length new.desk.entries
+at-least lines old new s =
+    let g : Grows old.desk new.desk = grows lines old.desk new.desk s.answers s.records s.answered in
+    omega (arith, ap (length {A = Entry Call Reply}) g.is, length-append old.desk.entries g.more)
+
+-- so do the tables
+pub same-tables : (lines : List (List ℕ)) (old new : Stand) → Settles lines old new → new.desk.tables ≡ old.desk.tables
+same-tables lines old new s =
+    let g : Grows old.desk new.desk = grows lines old.desk new.desk s.answers s.records s.answered in
+    g.same

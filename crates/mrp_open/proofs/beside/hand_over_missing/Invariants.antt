@@ -1,0 +1,6 @@
+use Rattle.std.proofs.Common.{take}
+use Rattle.mrp_open.specs.Runs.{HandsAllMissing}
+use Rattle.mrp_open.proofs.beside.hand_over_missing.Given as goal
+
+abbrev pub invariant-loop-entry : goal.invariant-loop-entry
+invariant-loop-entry g l = HandsAllMissing (g.F.FileStore.known l.files) l.folder (take l.entry-index l.entries) (g.T.RunTaker.told l.fn.taker) (g.T.RunTaker.told l.taker)

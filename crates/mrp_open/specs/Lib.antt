@@ -1,0 +1,11 @@
+pub mod Disk
+pub mod Ends
+pub mod Laws
+pub mod Lines
+pub mod Locks
+pub mod Made
+pub mod Opening
+pub mod Runs
+pub mod Served
+pub mod Start
+pub mod Sum

@@ -1,0 +1,500 @@
+//! An order desk, from its start to its end, with a thread that makes the files of its runs.
+
+ghost use Rattle.std.specs.Prelude.{◌≡◌, ◌⊎◌, None, false, true, IfErr, IfOk, IfSome, IsTrue, OnErr, OnOk, Some, codes, length, option_map, string_bytes};
+ghost use Rattle.std.specs.Int.{IsInRange};
+ghost use Rattle.std.specs.List.{All};
+ghost use Rattle.std.specs.Path.{path_join};
+ghost use Rattle.mrp_rows.specs.Told.{inner_of};
+ghost use Rattle.mrp_journal.specs.Held.{IsSettled, settled};
+ghost use Rattle.mrp_journal.specs.Journal.{IsFound, begun as text_begun};
+ghost use Rattle.mrp_folder.specs.Disk.{part_of, path_of as folder_path};
+ghost use Rattle.mrp_folder.specs.Sealed.{folder_of, has_seal, journal_of, name_of, text_of};
+ghost use Rattle.mrp_engine.specs.declared.day.run.TheConstants.{MOST_WORKERS};
+ghost use Rattle.mrp_words.specs.Folder.{IsAt, IsThere, nothing_known};
+ghost use Rattle.mrp_calls.specs.Desk.{Desk};
+ghost use Rattle.mrp_commands.specs.declared.ending.Ending.TheVariants as ending;
+ghost use Rattle.mrp_book.specs.declared.reply.Reply.TheVariants as reply;
+ghost use Rattle.mrp_runs.specs.File.{IsRun, run_name};
+ghost use Rattle.mrp_runs.specs.declared.run.Run.{Run};
+ghost use Rattle.mrp_open.specs.Disk.{opening_of, path_of};
+ghost use Rattle.mrp_open.specs.Ends.{DeskEnds, FailsToBegin, FailsToStart, FailsWithLock, IsServed, ServesOn, TellsEnd, cut_of};
+ghost use Rattle.mrp_open.specs.Made.{MakesAll};
+ghost use Rattle.mrp_open.specs.Opening.{IsUntouched};
+ghost use Rattle.mrp_open.specs.Runs.{HandsAllMissing, HandsMissing, IsRunOf};
+ghost use Rattle.mrp_open.specs.Served.{FailsToRead, FailsToSettle, MakesUp};
+ghost use Rattle.mrp_open.specs.Start.{AnswersJournal, AreUnchanged, sum_path};
+
+use crate::batches::{RunTaker, hand_run, serve};
+use crate::disk::{DeskFolder, LockFault, has_file};
+use crate::handing::{Given, RunKind, RunReceiver, RunSender, RunSource, make_all};
+use crate::notes::Notes;
+use crate::opening::{begin_journal, cut_number, tell_cut};
+use crate::place::JournalPlace;
+use crate::start::{Prepared, SUM_NAME, answer_journal, is_sealed, prepare};
+use crate::whole_lines::WholeLines;
+use crossbeam_channel::unbounded;
+use mrp_book::{Call, Entry, Reply, Snapshot};
+use mrp_calls::OpenDesk;
+use mrp_commands::Ending;
+use mrp_engine::MOST_WORKERS;
+use mrp_folder::{DiskFolder, Folder, SealedJournal};
+use mrp_journal::{JournalFile, Store};
+use mrp_qty::NoMemory;
+use mrp_rows::Told;
+use mrp_runs::{RunMaker, run_name};
+use mrp_words::FileStore;
+use std::alloc::Global;
+use std::fs::File;
+use std::io::{Read, Write};
+use std::marker::Brand;
+use std::rt::Files;
+use std::sync::Wait;
+use std::thread;
+use std::thread::Threads;
+
+// The name that the file of the sum is begun with.
+const SUM_PART: &str = "desk.part";
+
+// The name that a run's file is begun with.
+const RUN_PART: &str = "run.part";
+
+// Whether the file of a run is there.
+fn has_run<F: FileStore>(
+    files: &F,
+    alloc: Global,
+    folder: &str,
+    front: u64,
+) -> Result<bool, NoMemory>
+    ensures { IfOk result (IsThere (F.known files.now) (path_join folder.now (run_name front))) }
+{
+    let name = run_name(alloc, front)?;
+    has_file(files, alloc, folder, &name)
+}
+
+// Hands over a run whose file is not there.
+fn hand_missing_run<F: FileStore, T: RunTaker>(
+    files: &F,
+    alloc: Global,
+    folder: &str,
+    desk: u64,
+    snapshot: &Snapshot,
+    taker: &mut T,
+)
+    requires { T.takes (record { desk = desk; snapshot = snapshot.now }) }
+    ensures { HandsMissing (F.known files.now) folder.now (reply.Taken snapshot.now) (T.told taker.old) (T.told taker.new) }
+{
+    match has_run(files, alloc, folder, snapshot.front()) {
+        Ok(true) => {}
+        Ok(false) => hand_run(desk, snapshot, taker),
+        Err(NoMemory) => taker.miss(snapshot.front()),
+    }
+}
+
+// Hands over an entry, if it is a run whose file is not there.
+fn hand_missing<F: FileStore, T: RunTaker>(
+    files: &F,
+    alloc: Global,
+    folder: &str,
+    entry: &Entry<Call, Reply>,
+    taker: &mut T,
+)
+    requires { IsRunOf T.takes entry.now }
+    ensures { HandsMissing (F.known files.now) folder.now entry.now.reply (T.told taker.old) (T.told taker.new) }
+{
+    match &entry.reply {
+        Reply::Taken(snapshot) => {
+            hand_missing_run(files, alloc, folder, entry.who, snapshot, taker)
+        }
+        _ => {}
+    }
+}
+
+/// Hands over the runs of a journal whose files are not in its folder.
+pub fn hand_over_missing<F: FileStore, T: RunTaker>(
+    files: &F,
+    alloc: Global,
+    folder: &str,
+    entries: &[Entry<Call, Reply>],
+    taker: &mut T,
+)
+    requires { All (IsRunOf T.takes) entries.now }
+    ensures { HandsAllMissing (F.known files.now) folder.now entries.now (T.told taker.old) (T.told taker.new) }
+{
+    for entry in entries {
+        hand_missing(files, alloc, folder, entry, taker);
+    }
+}
+
+// An order desk whose journal was begun.
+struct Begun<'a, R, S> {
+    desk: OpenDesk<'a>,
+    journal: SealedJournal<'a, S, DiskFolder<'a, R>>,
+    maker: RunMaker<'a>,
+    // The record that half a line would have been that was cut off.
+    cut: Option<u64>,
+    folder: &'a str,
+}
+
+// The maker of a shop's runs.
+fn maker_of<'a>(
+    alloc: Global,
+    prepared: &'a Prepared,
+    workers: usize,
+) -> Result<RunMaker<'a>, Ending>
+    requires { IsInRange 1 MOST_WORKERS workers }
+    ensures maker { IfOk result (λ maker. maker ≡ prepared.now.rows.value.tables) }
+    ensures memory { IfErr result (λ end. end ≡ ending.NoMemory) }
+{
+    match RunMaker::of(alloc, &prepared.rows, workers) {
+        Ok(maker) => Ok(maker),
+        Err(NoMemory) => Err(Ending::NoMemory),
+    }
+}
+
+// Begins the desk of a folder that was prepared. The text of its sum stands there before the first record.
+fn begin<'a, F: FileStore, R: Files, P: JournalPlace>(
+    files: &F,
+    rt: &'a R,
+    alloc: Global,
+    folder: &'a str,
+    place: &mut P,
+    prepared: &'a Prepared,
+    workers: usize,
+) -> Result<Begun<'a, R, P::Journal>, Ending>
+    requires workers { IsInRange 1 MOST_WORKERS workers }
+    requires left { IfSome (P.left place.old) (IsFound prepared.now.found.script.items) }
+    ensures desk { IfOk result (λ begun. AnswersJournal prepared.now.rows.value.tables prepared.now.found.room begun.desk) }
+    ensures maker { IfOk result (λ begun. begun.maker ≡ prepared.now.rows.value.tables) }
+    ensures takes { OnOk result (IsTrue prepared.now.found.takes_records) }
+    ensures cut { IfOk result (λ begun. begun.cut ≡ cut_of prepared.now.found (length begun.desk.entries)) }
+    ensures at { IfOk result (λ begun. begun.folder.now ≡ folder.now) }
+    ensures sum { IfOk result (λ begun. text_of begun.journal ≡ string_bytes prepared.now.found.sum) }
+    ensures name { IfOk result (λ begun. name_of begun.journal ≡ codes "desk.tables") }
+    ensures folder { IfOk result (λ begun. folder_path (folder_of begun.journal) ≡ folder.now) }
+    ensures part { IfOk result (λ begun. part_of (folder_of begun.journal) ≡ codes "desk.part") }
+    ensures begun { IfOk result (λ begun. P.Journal.held (journal_of begun.journal) ≡ option_map (λ _. settled (text_begun prepared.now.found.script.items prepared.now.found.header.now)) (P.left place.old)) }
+    ensures lasts { OnOk result ((P.opening place.new).is_lasting ≡ true) }
+    ensures held { (P.opening place.new).is_held ≡ (P.opening place.old).is_held }
+    ensures sealed { IfOk result (λ begun. has_seal begun.journal ≡ true → IsAt (F.known files.now) (sum_path folder.now) (Some (string_bytes prepared.now.found.sum))) }
+    ensures unsealed { IfOk result (λ begun. has_seal begun.journal ≡ false → (length begun.desk.entries ≡ 0) ⊎ IsAt (F.known files.now) (sum_path folder.now) None) }
+    ensures unchanged { IfOk result (λ begun. AreUnchanged (F.known files.now) folder.now (length begun.desk.entries) (string_bytes prepared.now.found.sum)) }
+    ensures untouched { IfErr result (IsUntouched (P.opening place.old) (P.opening place.new)) }
+    ensures unbegun { IfErr result (FailsToBegin (F.known files.now) folder.now prepared.now.found prepared.now.rows.value.tables) }
+{
+    let desk = answer_journal(alloc, prepared)?;
+    let records = desk.entries().len();
+    let sealed = is_sealed(files, alloc, folder, records, &prepared.found.sum)?;
+    let maker = maker_of(alloc, prepared, workers)?;
+    let journal = begin_journal(place, &prepared.found)?;
+    let sums = DiskFolder::new(rt, alloc, folder, SUM_PART);
+    let text = prepared.found.sum.as_bytes();
+    Ok(Begun {
+        desk,
+        journal: SealedJournal::new(journal, sums, text, SUM_NAME, sealed),
+        maker,
+        cut: cut_number(&prepared.found, records),
+        folder,
+    })
+}
+
+// Hands over the runs of the journal whose files are not there, and answers calls until the input ends or something
+// fails. What was cut off is told first, and how it ends last.
+fn serve_told<F: FileStore, S: Store, I: Read, W: Write, E: Write, T: RunTaker>(
+    rt: &impl Wait,
+    alloc: Global,
+    files: &F,
+    folder: &str,
+    cut: Option<u64>,
+    desk: &mut OpenDesk<'_>,
+    journal: &mut S,
+    input: &mut Told<I>,
+    output: &mut Told<W>,
+    errors: &mut Told<E>,
+    taker: &mut T,
+) -> Ending
+    requires settled { IfSome (S.held journal.old) IsSettled }
+    requires taken { (run : Run) → IsRun desk.old.tables run → T.takes run }
+    ensures served { MakesUp (F.known files.now) folder.now (I.remaining (inner_of input.old))
+        (record { desk = desk.old; journal = S.held journal.old; output = W.contents (inner_of output.old) })
+        (record { desk = desk.new; journal = S.held journal.new; output = W.contents (inner_of output.new) })
+        (T.told taker.old) (T.told taker.new) result }
+    ensures told { TellsEnd E.contents errors.old errors.new cut result }
+    ensures read { result ≡ ending.Read → FailsToRead input.old input.new }
+    ensures write { result ≡ ending.Write → FailsToSettle (S.failures journal.old) (S.failures journal.new) output.old output.new }
+    ensures closed { T.closed taker.new ≡ true }
+{
+    tell_cut(cut, errors);
+    hand_over_missing(files, alloc, folder, desk.entries(), taker);
+    let end = serve(rt, alloc, desk, journal, input, output, taker);
+    taker.close();
+    let _ = end.tell(errors);
+    end
+}
+
+// Answers calls, and makes the files of runs in a thread of their own, if one can be started, otherwise once the
+// input has ended: first those of the journal that are not there. How it ends is told before the last runs are made.
+fn serve_and_make<
+    G: RunSource + Send,
+    F: FileStore,
+    S: Store,
+    R: Alloc<A = Global> + Threads + Wait + Sync,
+    D: Folder + Send,
+    N: Write + Send,
+    I: Read,
+    W: Write,
+    E: Write,
+    T: RunTaker,
+>(
+    rt: &R,
+    alloc: Global,
+    files: &F,
+    folder: &str,
+    cut: Option<u64>,
+    maker: &mut RunMaker<'_>,
+    from: &mut G,
+    into: &mut D,
+    notes: &mut Told<N>,
+    desk: &mut OpenDesk<'_>,
+    journal: &mut S,
+    input: &mut Told<I>,
+    output: &mut Told<W>,
+    errors: &mut Told<E>,
+    taker: &mut T,
+) -> Ending
+where
+    D::Part: Send,
+    requires given { (run : Run) → G.gives run → IsRun maker.old run }
+    requires settled { IfSome (S.held journal.old) IsSettled }
+    requires taken { (run : Run) → IsRun desk.old.tables run → T.takes run }
+    ensures served { MakesUp (F.known files.now) folder.now (I.remaining (inner_of input.old))
+        (record { desk = desk.old; journal = S.held journal.old; output = W.contents (inner_of output.old) })
+        (record { desk = desk.new; journal = S.held journal.new; output = W.contents (inner_of output.new) })
+        (T.told taker.old) (T.told taker.new) result }
+    ensures told { TellsEnd E.contents errors.old errors.new cut result }
+    ensures read { result ≡ ending.Read → FailsToRead input.old input.new }
+    ensures write { result ≡ ending.Write → FailsToSettle (S.failures journal.old) (S.failures journal.new) output.old output.new }
+    ensures closed { T.closed taker.new ≡ true }
+    ensures made { MakesAll D.Part N.contents maker.old (G.left from.old) (D.failures into.old) (D.failures into.new) (D.named into.old) (D.named into.new) notes.old notes.new }
+{
+    let mut beside = ||
+        requires { (run : Run) → G.gives run → IsRun maker.now run }
+        ensures { MakesAll D.Part N.contents maker.entry.now (G.left from.entry.now) (D.failures into.entry.now) (D.failures into.exit.now) (D.named into.entry.now) (D.named into.exit.now) notes.entry.now notes.exit.now }
+    { make_all(rt, alloc, maker, from, into, notes) };
+    let mut here = || -> Ending
+        requires settled { IfSome (S.held journal.now) IsSettled }
+        requires taken { (run : Run) → IsRun desk.now.tables run → T.takes run }
+        ensures served { MakesUp (F.known files.entry.now) folder.entry.now (I.remaining (inner_of input.entry.now))
+            (record { desk = desk.entry.now; journal = S.held journal.entry.now; output = W.contents (inner_of output.entry.now) })
+            (record { desk = desk.exit.now; journal = S.held journal.exit.now; output = W.contents (inner_of output.exit.now) })
+            (T.told taker.entry.now) (T.told taker.exit.now) result }
+        ensures told { TellsEnd E.contents errors.entry.now errors.exit.now cut result }
+        ensures read { result ≡ ending.Read → FailsToRead input.entry.now input.exit.now }
+        ensures write { result ≡ ending.Write → FailsToSettle (S.failures journal.entry.now) (S.failures journal.exit.now) output.entry.now output.exit.now }
+        ensures closed { T.closed taker.exit.now ≡ true }
+    {
+        serve_told(
+            rt, alloc, files, folder, cut, desk, journal, input, output, errors, taker,
+        )
+    };
+    let ((), end) = thread::join_mut(rt, &mut beside, &mut here);
+    end
+}
+
+// Answers calls, and makes the files of runs beside that.
+//
+// Errors: `NoMemory` if there is no memory for handing runs over; nothing was told then.
+fn serve_beside<
+    K: RunKind + Send,
+    F: FileStore,
+    R: Alloc<A = Global> + Eprint + Files<File = File> + Threads + Wait + Sync,
+    I: Read,
+    W: Write,
+    E: Write,
+>(
+    files: &F,
+    rt: &R,
+    alloc: Global,
+    begun: Begun<'_, R, JournalFile<File>>,
+    input: &mut Told<I>,
+    output: &mut Told<W>,
+    errors: &mut Told<E>,
+) -> Result<Ending, Ending>
+where
+    R::Dir: Send,
+    requires given { (run : Run) → K.holds run → IsRun begun.maker run }
+    requires taken { (run : Run) → IsRun begun.desk.tables run → K.holds run }
+    ensures served { IfOk result (λ end. (new : Desk) × ServesOn (F.known files.now) begun.entry.folder.now I.remaining W.contents input.old output.old output.new begun.entry.desk new end) }
+    ensures told { IfOk result (TellsEnd E.contents errors.old errors.new begun.entry.cut) }
+    ensures read { IfOk result (λ end. end ≡ ending.Read → FailsToRead input.old input.new) }
+    ensures memory { IfErr result (λ end. end ≡ ending.NoMemory) }
+    ensures same { OnErr result ((input.new ≡ input.old) × (output.new ≡ output.old) × (errors.new ≡ errors.old)) }
+{
+    let Begun {
+        mut desk,
+        mut journal,
+        mut maker,
+        cut,
+        folder,
+    } = begun;
+    let Ok((to, from)) = unbounded::<Given<K>, Global>(alloc) else {
+        return Err(Ending::NoMemory);
+    };
+    let mut taker = RunSender::new(rt, to);
+    let mut source = RunReceiver::new(rt, from);
+    let mut into = DiskFolder::new(rt, alloc, folder, RUN_PART);
+    let mut notes = Told::new(WholeLines::new(Notes { rt }));
+    Ok(serve_and_make(
+        rt,
+        alloc,
+        files,
+        folder,
+        cut,
+        &mut maker,
+        &mut source,
+        &mut into,
+        &mut notes,
+        &mut desk,
+        &mut journal,
+        input,
+        output,
+        errors,
+        &mut taker,
+    ))
+}
+
+// An order desk on a folder that was locked.
+//
+// Errors: how it ends, where it answers nothing; it is not told then.
+fn open_locked<
+    F: FileStore,
+    R: Alloc<A = Global> + Eprint + Files<File = File> + Threads + Wait + Sync,
+    I: Read,
+    W: Write,
+    E: Write,
+>(
+    files: &F,
+    rt: &R,
+    alloc: Global,
+    folder: &str,
+    place: &mut DeskFolder<'_, R>,
+    workers: usize,
+    input: &mut Told<I>,
+    output: &mut Told<W>,
+    errors: &mut Told<E>,
+) -> Result<Ending, Ending>
+where
+    R::Dir: Send,
+    requires workers { IsInRange 1 MOST_WORKERS workers }
+    requires held { (opening_of place.old).is_held ≡ true }
+    ensures served { IfOk result (IsServed (opening_of place.new) (F.known files.now) folder.now I.remaining W.contents E.contents input.old input.new output.old output.new errors.old errors.new) }
+    ensures unbegun { IfErr result (FailsWithLock (opening_of place.new) (F.known files.now) folder.now) }
+    ensures untouched { IfErr result (IsUntouched (opening_of place.old) (opening_of place.new)) }
+    ensures same { OnErr result ((input.new ≡ input.old) × (output.new ≡ output.old) × (errors.new ≡ errors.old)) }
+{
+    let prepared = prepare(rt, alloc, files, folder)?;
+    let begun = begin(files, rt, alloc, folder, place, &prepared, workers)?;
+    serve_beside::<Brand, F, R, I, W, E>(files, rt, alloc, begun, input, output, errors)
+}
+
+// An order desk on a folder, which is locked first.
+//
+// Errors: how it ends, where it answers nothing; it is not told then.
+fn open_named<
+    F: FileStore,
+    R: Alloc<A = Global> + Eprint + Files<File = File> + Threads + Wait + Sync,
+    I: Read,
+    W: Write,
+    E: Write,
+>(
+    files: &F,
+    rt: &R,
+    alloc: Global,
+    folder: &str,
+    place: &mut DeskFolder<'_, R>,
+    workers: usize,
+    input: &mut Told<I>,
+    output: &mut Told<W>,
+    errors: &mut Told<E>,
+) -> Result<Ending, Ending>
+where
+    R::Dir: Send,
+    requires { IsInRange 1 MOST_WORKERS workers }
+    ensures served { IfOk result (IsServed (opening_of place.new) (F.known files.now) folder.now I.remaining W.contents E.contents input.old input.new output.old output.new errors.old errors.new) }
+    ensures unbegun { IfErr result (FailsToStart (opening_of place.old) (opening_of place.new) (F.known files.now) folder.now) }
+    ensures same { OnErr result ((input.new ≡ input.old) × (output.new ≡ output.old) × (errors.new ≡ errors.old)) }
+{
+    match place.lock() {
+        Ok(()) => open_locked(
+            files, rt, alloc, folder, place, workers, input, output, errors,
+        ),
+        Err(LockFault::InUse) => Err(Ending::InUse),
+        Err(LockFault::Read) => Err(Ending::Read),
+    }
+}
+
+// The same, with the numbers of closed streams taken, so that no file of the folder gets one.
+fn open_folder<
+    F: FileStore,
+    R: Alloc<A = Global> + Eprint + Files<File = File> + Threads + Wait + Sync,
+    I: Read,
+    W: Write,
+    E: Write,
+>(
+    files: &F,
+    rt: &R,
+    alloc: Global,
+    place: &mut DeskFolder<'_, R>,
+    workers: usize,
+    input: &mut Told<I>,
+    output: &mut Told<W>,
+    errors: &mut Told<E>,
+) -> Result<Ending, Ending>
+where
+    R::Dir: Send,
+    requires { IsInRange 1 MOST_WORKERS workers }
+    ensures served { IfOk result (IsServed (opening_of place.new) (F.known files.now) (path_of place.old) I.remaining W.contents E.contents input.old input.new output.old output.new errors.old errors.new) }
+    ensures unbegun { IfErr result (FailsToStart (opening_of place.old) (opening_of place.new) (F.known files.now) (path_of place.old)) }
+    ensures same { OnErr result ((input.new ≡ input.old) × (output.new ≡ output.old) × (errors.new ≡ errors.old)) }
+{
+    let folder = place.path();
+    match place.hold_streams() {
+        Ok(held) => {
+            let end = open_named(
+                files, rt, alloc, folder, place, workers, input, output, errors,
+            );
+            drop(held);
+            end
+        }
+        Err(_) => Err(Ending::Read),
+    }
+}
+
+/// Opens an order desk on a folder, answers the lines of an input until it ends, and returns how that ended, which
+/// was told on the error stream. It has 1 to 64 workers to plan runs, as the caller guarantees.
+pub fn open_desk<
+    R: Alloc<A = Global> + Eprint + Files<File = File> + Threads + Wait + Sync,
+    I: Read,
+    W: Write,
+    E: Write,
+>(
+    rt: &R,
+    alloc: Global,
+    place: &mut DeskFolder<'_, R>,
+    workers: usize,
+    input: &mut Told<I>,
+    output: &mut Told<W>,
+    errors: &mut Told<E>,
+) -> Ending
+where
+    R::Dir: Send,
+    requires { IsInRange 1 MOST_WORKERS workers }
+    ensures { DeskEnds (opening_of place.old) (opening_of place.new) nothing_known (path_of place.old) I.remaining W.contents E.contents input.old input.new output.old output.new errors.old errors.new result }
+{
+    match open_folder(rt, rt, alloc, place, workers, input, output, errors) {
+        Ok(end) => end,
+        Err(end) => {
+            let _ = end.tell(errors);
+            end
+        }
+    }
+}

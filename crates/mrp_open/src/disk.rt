@@ -1,0 +1,257 @@
+//! What a start does with a folder of the operating system. No contract can say what its files have.
+
+ghost use Rattle.std.specs.Prelude.{IfOk};
+ghost use Rattle.std.specs.Path.{path_join};
+ghost use Rattle.mrp_words.specs.Folder.{IsThere};
+ghost use Rattle.mrp_open.specs.Locks.{IsTaken};
+
+use crate::place::JournalPlace;
+use mrp_commands::Ending;
+use mrp_journal::JournalFile;
+use mrp_qty::NoMemory;
+use mrp_words::FileStore;
+use std::alloc::Global;
+use std::fs::{File, OpenFile, OpenOptions, TryLockError};
+use std::io;
+use std::io::ErrorKind;
+use std::path::Path;
+use std::rt::Files;
+
+/// Why a folder was not locked.
+#[derive(Clone, Copy, Debug, PartialEq, Eq)]
+pub enum LockFault {
+    /// Another desk has it.
+    InUse,
+    /// It could not be opened or locked.
+    Read,
+}
+
+// Whether a lock was taken, by what the operating system answered.
+fn lock_taken(outcome: Result<(), TryLockError>) -> Result<(), LockFault>
+    ensures { IsTaken outcome result }
+{
+    match outcome {
+        Ok(()) => Ok(()),
+        Err(TryLockError::WouldBlock) => Err(LockFault::InUse),
+        Err(TryLockError::Error(_)) => Err(LockFault::Read),
+    }
+}
+
+// Takes the lock of a folder, without waiting. It goes with the handle.
+fn hold(handle: &File) -> Result<(), LockFault> {
+    lock_taken(handle.try_lock())
+}
+
+// A file of which nothing is kept.
+const NULL: &str = "/dev/null";
+
+// Three open handles. Where standard streams are closed they have taken their numbers, so that no file of a folder gets
+// one, and what is written to a stream never gets into a file.
+fn open_null<R: Files>(files: &R) -> io::Result<[R::File; 3]> {
+    let first = File::open(files, NULL)?;
+    let second = File::open(files, NULL)?;
+    let third = File::open(files, NULL)?;
+    Ok([first, second, third])
+}
+
+// The path of a folder. An empty one is the folder that the program runs in.
+fn folder_path(folder: &str) -> &str {
+    if folder.is_empty() { "." } else { folder }
+}
+
+// The handle of a folder, locked; `None` if there is no such folder.
+//
+// Errors: `InUse` if another process has the lock; `Read` if the folder can't be opened or locked.
+fn lock_folder(files: &impl Files<File = File>, folder: &str) -> Result<Option<File>, LockFault> {
+    match File::open(files, folder_path(folder)) {
+        Ok(handle) => {
+            hold(&handle)?;
+            Ok(Some(handle))
+        }
+        Err(error) if matches!(error.kind(), ErrorKind::NotFound | ErrorKind::NotADirectory) => {
+            Ok(None)
+        }
+        Err(_) => Err(LockFault::Read),
+    }
+}
+
+// The journal of a folder, opened to be appended to; it is made if it is not there.
+fn open_journal<R: Files>(
+    files: &R,
+    alloc: Global,
+    folder: &str,
+) -> io::Result<JournalFile<R::File>> {
+    let path = Path::new(folder).join(alloc, "script.csv")?;
+    let file = OpenOptions::new()
+        .append(true)
+        .create(true)
+        .open(files, path.as_str())?;
+    Ok(JournalFile::new(file))
+}
+
+// Makes the names in a folder durable.
+fn sync_folder<F: OpenFile>(handle: &Option<F>) -> io::Result<()> {
+    match handle {
+        Some(handle) => handle.sync_all(),
+        None => Err(io::Error::from(ErrorKind::NotFound)),
+    }
+}
+
+/// A folder of the operating system that an order desk is opened on. What its calls answered is told: whether it is
+/// locked, its journal was opened and its names are durable, how often another desk had the lock, and how many calls
+/// failed.
+#[derive(Drop)]
+pub struct DeskFolder<'a, R> {
+    files: &'a R,
+    alloc: Global,
+    path: &'a str,
+    // Its own handle, which has the lock.
+    handle: Option<File>,
+    is_held: bool,
+    is_opened: bool,
+    is_lasting: bool,
+    in_use: u64,
+    failures: u64,
+}
+
+impl<'a, R> DeskFolder<'a, R> {
+    ghost use Rattle.std.specs.Prelude.{◌≡◌};
+    ghost use Rattle.mrp_open.specs.Disk.{opening_of, path_of};
+    ghost use Rattle.mrp_open.specs.Opening.{HasFailed, unopened};
+
+    /// A folder of which no call was made yet.
+    pub fn new(files: &'a R, alloc: Global, path: &'a str) -> DeskFolder<'a, R>
+        ensures path { path_of result ≡ path.now }
+        ensures unopened { opening_of result ≡ unopened }
+    {
+        DeskFolder {
+            files,
+            alloc,
+            path,
+            handle: None,
+            is_held: false,
+            is_opened: false,
+            is_lasting: false,
+            in_use: 0,
+            failures: 0,
+        }
+    }
+
+    /// Its path.
+    pub fn path(&self) -> &'a str
+        ensures { result.now ≡ path_of self.now }
+    {
+        self.path
+    }
+
+    // Counts a call that failed.
+    fn fail(&mut self)
+        ensures failed { HasFailed (opening_of self.old) (opening_of self.new) }
+        ensures unopened { (opening_of self.new).is_opened ≡ (opening_of self.old).is_opened }
+    {
+        self.failures = self.failures.saturating_add(1);
+    }
+}
+
+impl<'a, R: Files<File = File>> DeskFolder<'a, R> {
+    ghost use Rattle.std.specs.Prelude.{◌≡◌, OnErr, OnOk};
+    ghost use Rattle.mrp_open.specs.Disk.{TellsLock, opening_of};
+    ghost use Rattle.mrp_open.specs.Opening.{HasFailed};
+
+    /// Takes the numbers of closed standard streams, so that no file of the folder gets one, and what is written to a
+    /// stream never gets into a file. They are held as long as the handles.
+    ///
+    /// Errors: a handle could not be opened.
+    pub fn hold_streams(&mut self) -> Result<[File; 3], LockFault>
+        ensures sound { OnOk result (opening_of self.new ≡ opening_of self.old) }
+        ensures failed { OnErr result (HasFailed (opening_of self.old) (opening_of self.new)) }
+        ensures unopened { (opening_of self.new).is_opened ≡ (opening_of self.old).is_opened }
+    {
+        match open_null(self.files) {
+            Ok(handles) => Ok(handles),
+            Err(_) => {
+                self.fail();
+                Err(LockFault::Read)
+            }
+        }
+    }
+
+    /// Takes its lock, without waiting, if there is such a folder. The lock goes with this value.
+    ///
+    /// Errors: `InUse` if another process has the lock; `Read` if the folder can't be opened or locked.
+    pub fn lock(&mut self) -> Result<(), LockFault>
+        ensures told { TellsLock (opening_of self.old) (opening_of self.new) result }
+        ensures unopened { (opening_of self.new).is_opened ≡ (opening_of self.old).is_opened }
+    {
+        match lock_folder(self.files, self.path) {
+            Ok(handle) => {
+                self.handle = handle;
+                self.is_held = true;
+                Ok(())
+            }
+            Err(LockFault::InUse) => {
+                self.in_use = self.in_use.saturating_add(1);
+                Err(LockFault::InUse)
+            }
+            Err(LockFault::Read) => {
+                self.fail();
+                Err(LockFault::Read)
+            }
+        }
+    }
+}
+
+// No contract can say which bytes the operating system keeps.
+impl<'a, R: Files<File = File>> JournalPlace for DeskFolder<'a, R> {
+    ghost use Rattle.std.specs.Prelude.{None};
+    ghost use Rattle.mrp_open.specs.Disk.{opening_of};
+
+    type Journal = JournalFile<File>;
+
+    ghost left = { λ _. None };
+
+    ghost opening = { λ folder. opening_of folder };
+
+    fn open_journal(&mut self) -> Result<JournalFile<File>, Ending> {
+        match open_journal(self.files, self.alloc, self.path) {
+            Ok(journal) => {
+                self.is_opened = true;
+                self.is_lasting = false;
+                Ok(journal)
+            }
+            Err(error) if error.kind() == ErrorKind::OutOfMemory => Err(Ending::NoMemory),
+            Err(_) => {
+                self.fail();
+                Err(Ending::Write)
+            }
+        }
+    }
+
+    fn sync_names(&mut self) -> Result<(), Ending> {
+        match sync_folder(&self.handle) {
+            Ok(()) => {
+                self.is_lasting = true;
+                Ok(())
+            }
+            Err(_) => {
+                self.fail();
+                Err(Ending::Write)
+            }
+        }
+    }
+}
+
+/// Whether a folder has a file with a name.
+///
+/// Errors: `NoMemory` if an allocation fails.
+pub fn has_file<F: FileStore>(
+    files: &F,
+    alloc: Global,
+    folder: &str,
+    name: &str,
+) -> Result<bool, NoMemory>
+    ensures { IfOk result (IsThere (F.known files.now) (path_join folder.now name.now)) }
+{
+    let path = Path::new(folder).join(alloc, name)?;
+    Ok(files.can_be_opened(path.as_str()))
+}

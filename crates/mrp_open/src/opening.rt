@@ -1,0 +1,74 @@
+//! The opening of a desk: its journal is begun, and what was cut off is told.
+
+ghost use Rattle.std.specs.Prelude.{◌≡◌, ◌≤◌, ◌⊎◌, Err, IfErr, IfOk, IfSome, OnOk, option_map};
+ghost use Rattle.mrp_rows.specs.Told.{HasRisenBy};
+ghost use Rattle.mrp_tables.specs.declared.limits.TheConstants.{MOST_ROWS};
+ghost use Rattle.mrp_journal.specs.Held.{Becomes, settled};
+ghost use Rattle.mrp_journal.specs.Journal.{BeginsSafely, IsFound, begun};
+ghost use Rattle.mrp_commands.specs.declared.ending.Ending.TheVariants as ending;
+ghost use Rattle.mrp_open.specs.Ends.{IsTold};
+ghost use Rattle.mrp_open.specs.Opening.{HasFailed, IsFailing, lasting, with_journal};
+ghost use Rattle.mrp_open.specs.Start.{cut_number, cut_text};
+
+use crate::finding::Found;
+use crate::place::JournalPlace;
+use itoa::Buffer;
+use mrp_commands::{Ending, write_line};
+use mrp_journal::{Store, begin, whole_lines};
+use mrp_rows::{Told, WriteFault};
+use std::io::Write;
+
+// Begins a journal by what was found, and makes it durable.
+fn begin_store<S: Store>(journal: &mut S, found: &Found) -> Result<(), Ending>
+    requires { IfSome (S.held journal.old) (IsFound found.now.script.items) }
+    ensures begun { OnOk result (S.held journal.new ≡ option_map (λ _. settled (begun found.now.script.items found.now.header.now)) (S.held journal.old)) }
+    ensures safe { Becomes (BeginsSafely found.now.script.items found.now.header.now) (S.held journal.old) (S.held journal.new) }
+    ensures write { IfErr result (λ end. (end ≡ ending.Write) × HasRisenBy 1 (S.failures journal.old) (S.failures journal.new)) }
+{
+    match begin(journal, &found.script, found.header) {
+        Ok(()) => Ok(()),
+        Err(WriteFault) => Err(Ending::Write),
+    }
+}
+
+/// Begins the journal of a folder, by what was found there, and makes it and its name durable.
+///
+/// Errors: how the desk ends.
+pub fn begin_journal<P: JournalPlace>(place: &mut P, found: &Found) -> Result<P::Journal, Ending>
+    requires { IfSome (P.left place.old) (IsFound found.now.script.items) }
+    ensures begun { IfOk result (λ journal. P.Journal.held journal ≡ option_map (λ _. settled (begun found.now.script.items found.now.header.now)) (P.left place.old)) }
+    ensures lasts { OnOk result (P.opening place.new ≡ lasting (with_journal (P.opening place.old))) }
+    ensures held { (P.opening place.new).is_held ≡ (P.opening place.old).is_held }
+    ensures end { IfErr result (λ end. (end ≡ ending.NoMemory) ⊎ (end ≡ ending.Write)) }
+    ensures write { result ≡ Err ending.Write → HasFailed (P.opening place.old) (P.opening place.new) ⊎ IsFailing P.Journal.failures }
+{
+    let mut journal = place.open_journal()?;
+    begin_store(&mut journal, found)?;
+    place.sync_names()?;
+    Ok(journal)
+}
+
+/// The record that half a line would have been that is cut off, if there is one: 0 for the header.
+pub fn cut_number(found: &Found, records: usize) -> Option<u64>
+    requires { records ≤ MOST_ROWS }
+    ensures { result ≡ cut_number found.now.script.items found.now.header.now records }
+{
+    if whole_lines(&found.script).len() == found.script.len() {
+        return None;
+    }
+    if found.header.is_empty() {
+        Some(records as u64 + 1)
+    } else {
+        Some(0)
+    }
+}
+
+/// Tells that half a line was cut off, if one was: `cut: script 7`.
+pub fn tell_cut<E: Write>(number: Option<u64>, errors: &mut Told<E>)
+    ensures { IsTold E.contents errors.old errors.new (cut_text number) }
+{
+    if let Some(number) = number {
+        let mut digits = Buffer::new();
+        let _ = write_line(errors, b"cut: script ", digits.format(number).as_bytes());
+    }
+}
