@@ -136,7 +136,7 @@ fn faults_of(
 
 // A survey of the texts of tables.
 fn survey_of(
-    rt: &impl Threads,
+    rt: &(impl Threads + Sync),
     alloc: Global,
     sources: &[Option<Source<'_>>; 9],
 ) -> Result<Survey, NoMemory>
@@ -250,7 +250,7 @@ fn inspect_pieces(
 /// all faults, each with its file, line and column, with what planning says behind the first; where they are
 /// accepted tells warnings of what is odd. Nothing is planned.
 ///
-/// Tables are read and at the same time surveyed, in up to four threads, as many as can be started.
+/// Tables are read and at the same time surveyed, in up to five threads, as many as can be started.
 ///
 /// Errors: `NoMemory` if an allocation fails.
 pub fn inspect(
