@@ -55,6 +55,7 @@ fn push_bare(alloc: Global, path_kind: PathKind, lines: &mut Listing) -> Result<
 
 // Adds the lines of what is wrong with files, and then with their records.
 fn push_all(
+    rt: &impl Threads,
     alloc: Global,
     firsts: &[Option<usize>],
     strays: &[Stray<'_>],
@@ -65,11 +66,12 @@ fn push_all(
     ensures { OnOk result (listed_in lines.new ≡ with_lines (listed_in lines.old) (map stray_text strays.now ++ filter_map (missing_of firsts.now others.now) all_tables ++ survey_lines survey.now)) }
 {
     push_files(alloc, strays, firsts, others, lines)?;
-    push_survey(alloc, survey, lines)
+    push_survey(rt, alloc, survey, lines)
 }
 
 // Adds the line of a folder that has none of the tables, or those of all faults.
 fn push_if(
+    rt: &impl Threads,
     alloc: Global,
     bare: bool,
     path_kind: PathKind,
@@ -84,12 +86,13 @@ fn push_if(
     if bare {
         push_bare(alloc, path_kind, lines)
     } else {
-        push_all(alloc, firsts, strays, others, survey, lines)
+        push_all(rt, alloc, firsts, strays, others, survey, lines)
     }
 }
 
 // Adds the lines of all faults.
 fn push_told(
+    rt: &impl Threads,
     alloc: Global,
     found: &Found,
     firsts: &[Option<usize>],
@@ -104,6 +107,7 @@ fn push_told(
     let bare = is_bare(found);
     let others = found.others.as_slice();
     push_if(
+        rt,
         alloc,
         bare,
         found.path_kind,
@@ -117,6 +121,7 @@ fn push_told(
 
 // The faults of tables that are refused, by a survey of their texts.
 fn faults_of(
+    rt: &impl Threads,
     alloc: Global,
     found: &Found,
     firsts: &[Option<usize>],
@@ -130,7 +135,7 @@ fn faults_of(
 {
     let remark = remark_text(alloc, fault)?;
     let mut lines = Listing::new(alloc, remark);
-    push_told(alloc, found, firsts, strays, survey, &mut lines)?;
+    push_told(rt, alloc, found, firsts, strays, survey, &mut lines)?;
     told_text(alloc, lines, fault)
 }
 
@@ -167,6 +172,7 @@ fn open_and_survey(
 
 // What is told where tables are refused, with a survey of their texts.
 fn inspect_refused(
+    rt: &impl Threads,
     alloc: Global,
     found: &Found,
     firsts: &[Option<usize>],
@@ -181,7 +187,7 @@ fn inspect_refused(
 {
     match why {
         OpenFault::Refused(fault) => {
-            let told = faults_of(alloc, found, firsts, strays, survey, &fault)?;
+            let told = faults_of(rt, alloc, found, firsts, strays, survey, &fault)?;
             Ok(Inspected {
                 text: told,
                 has_faults: true,
@@ -216,7 +222,7 @@ fn inspect_sources(
                 has_faults: false,
             })
         }
-        Err(why) => inspect_refused(alloc, found, firsts, strays, &survey, why),
+        Err(why) => inspect_refused(rt, alloc, found, firsts, strays, &survey, why),
     }
 }
 
