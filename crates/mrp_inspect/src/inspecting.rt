@@ -8,7 +8,7 @@ ghost use Rattle.mrp_advice.specs.Listing.{listed_in, with_lines};
 ghost use Rattle.mrp_words.specs.Folder.{all_tables};
 ghost use Rattle.mrp_inspect.specs.Faults.{lines_if, lines_of};
 ghost use Rattle.mrp_inspect.specs.Found.{parts_of};
-ghost use Rattle.mrp_inspect.specs.Inspected.{Inspects, IsFaultsText, IsSurveyOf, Tells, bundle_in};
+ghost use Rattle.mrp_inspect.specs.Inspected.{Inspects, IsFaultsText, IsSurveyOf, Tells, WarnsIfOpened, bundle_in};
 ghost use Rattle.mrp_inspect.specs.Words.{path_text, missing_of, stray_text};
 ghost use Rattle.mrp_inspect.specs.Pieces.{pieces_of};
 ghost use Rattle.mrp_inspect.specs.Strays.{firsts_of, strays_of};
@@ -24,7 +24,6 @@ use crate::stray::{Stray, firsts_of, strays_of};
 use crate::warning::warnings_of;
 use crate::words::{path_text, push_files};
 use mrp_advice::{Listing, push_survey};
-use mrp_bill::Shop;
 use mrp_qty::NoMemory;
 use mrp_rows::Fault;
 use mrp_script::{OpenFault, open_shop};
@@ -150,23 +149,41 @@ fn survey_of(
     survey(rt, alloc, sources)
 }
 
-// The shop of a bundle, and a survey of the texts of its tables, in two threads if a second one can be started: a folder that
-// is inspected mostly has a fault, and then both are needed.
-fn open_and_survey(
+// The warnings of the shop of a bundle, or why it is not opened.
+fn open_and_warn(
+    rt: &impl Threads,
+    alloc: Global,
+    bundle: &[u8],
+    sources: &[Option<Source<'_>>; 9],
+) -> Result<String, OpenFault>
+    ensures { WarnsIfOpened bundle.now sources.now result }
+{
+    match open_shop(rt, alloc, bundle) {
+        Ok(shop) => match warnings_of(alloc, bundle, &shop, sources) {
+            Ok(text) => Ok(text),
+            Err(NoMemory) => Err(OpenFault::NoMemory),
+        },
+        Err(why) => Err(why),
+    }
+}
+
+// A survey of the texts of tables, and beside it what is odd about them or why they are refused, in two threads if a second one can
+// be started: nobody knows before whether they are refused, and either takes about as long as the other.
+fn survey_and_open(
     rt: &(impl Threads + Sync),
     alloc: Global,
     bundle: &[u8],
     sources: &[Option<Source<'_>>; 9],
-) -> (Result<Survey, NoMemory>, Result<Shop, OpenFault>)
+) -> (Result<Survey, NoMemory>, Result<String, OpenFault>)
     ensures surveyed { IfOk result.0 (IsSurveyOf sources.now) }
-    ensures opened { Opens bundle.now result.1 }
+    ensures opened { WarnsIfOpened bundle.now sources.now result.1 }
 {
     let tell = move || -> Result<Survey, NoMemory>
         ensures { IfOk result (IsSurveyOf sources.entry.now) }
     { survey_of(rt, alloc, sources) };
-    let open = move || -> Result<Shop, OpenFault>
-        ensures { Opens bundle.entry.now result }
-    { open_shop(rt, alloc, bundle) };
+    let open = move || -> Result<String, OpenFault>
+        ensures { WarnsIfOpened bundle.entry.now sources.entry.now result }
+    { open_and_warn(rt, alloc, bundle, sources) };
     thread::join(rt, tell, open)
 }
 
@@ -211,17 +228,13 @@ fn inspect_sources(
     requires strays { strays.now ≡ strays_of (pieces_of (parts_of found.now)) }
     ensures { IfOk result (λ inspected. Tells inspected.has_faults bundle.now found.now sources.now (string_bytes inspected.text)) }
 {
-    let (surveyed, opened) = open_and_survey(rt, alloc, bundle, sources);
+    let (surveyed, opened) = survey_and_open(rt, alloc, bundle, sources);
     let survey = surveyed?;
     match opened {
-        Ok(shop) => {
-            drop(survey);
-            let text = warnings_of(alloc, bundle, &shop, sources)?;
-            Ok(Inspected {
-                text,
-                has_faults: false,
-            })
-        }
+        Ok(text) => Ok(Inspected {
+            text,
+            has_faults: false,
+        }),
         Err(why) => inspect_refused(rt, alloc, found, firsts, strays, &survey, why),
     }
 }
