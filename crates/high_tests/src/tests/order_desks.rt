@@ -3,8 +3,10 @@
 use super::audits::{DAY, SCRIPT, text_of};
 use super::checks::make_shop;
 use super::commands::{Streams, has_ended, left_by};
+use super::streams::{ALL, FAILS, acts};
 use super::texts::{LOTS_HISTORY, LOTS_REPORT, WELD_LOADS};
 use super::{made, same};
+use mrp_rows::devices::{Act, Stretch};
 use std::fs;
 use std::fs::File;
 use std::io::Write;
@@ -85,6 +87,53 @@ fn half_a_line_and_other_tables_are_told(rt: HostRuntime) {
     let changed = left_by(&rt, alloc, WORDS, Streams::of("1,run,,,,\n"));
     has_ended(&rt, &changed, 1, "", "tables changed\n");
     drop(changed);
+}
+
+// What streams do first: a call of 27 bytes, a line; a call of 5; a call of 7 between interruptions.
+const LINE: &[Stretch] = &[Stretch(1, Act::Moves(27))];
+
+const FRONT: &[Stretch] = &[Stretch(1, Act::Moves(5))];
+
+const SLOW: &[Stretch] = &[
+    Stretch(1, Act::Interrupts),
+    Stretch(1, Act::Moves(7)),
+    Stretch(1, Act::Interrupts),
+];
+
+// Opens the order desk of a folder to such streams: a read that fails behind a line, a write that fails within an
+// answer, and slow ones. Each start knows the calls of those before, also the one whose answer was cut.
+#[test]
+fn streams_that_fail_end_an_order_desk(rt: HostRuntime) {
+    const WORDS: &[&str] = &["desk", "--dir", "out/failing"];
+    let alloc = rt.alloc();
+    made(&rt, make_unopened(&rt, "out/failing"));
+    let unread = Streams {
+        reads: acts(LINE, FAILS),
+        ..Streams::of("1,book,BIKE,2025-01-20,12,\n1,run,,,,\n")
+    };
+    let untold = Streams {
+        writes: acts(FRONT, FAILS),
+        ..Streams::of("1,ask,BIKE,2025-01-20,,\n")
+    };
+    let slow = Streams {
+        reads: acts(SLOW, Act::Moves(1)),
+        writes: acts(SLOW, ALL),
+        ..Streams::of("1,cancel,,,,1\n1,cancel,,,,1\n")
+    };
+    for (streams, status, output, errors) in [
+        (unread, 4, "1,1,book,BIKE,3,12,,booked,1\n", "read failed\n"),
+        (untold, 4, "2,1,a", "write failed\n"),
+        (
+            slow,
+            0,
+            "3,1,cancel,,,,1,cancelled,\n4,1,cancel,,,,1,not-standing,\n",
+            "",
+        ),
+    ] {
+        let left = left_by(&rt, alloc, WORDS, streams);
+        has_ended(&rt, &left, status, output, errors);
+        drop(left);
+    }
 }
 
 #[test]
