@@ -280,6 +280,7 @@ struct FirstTold {
 
 // Tells what is wrong with the bills, and returns the sets of items that need one another.
 fn tell_bills(
+    rt: &impl Threads,
     alloc: Global,
     sources: &[Option<Source<'_>>; 9],
     beside: &Beside,
@@ -296,12 +297,18 @@ fn tell_bills(
     let Some(mut rows) = sheet.rows_below(alloc, form)? else {
         return Ok(Vec::new(alloc));
     };
-    let lines = tell_bill_lines(alloc, form, beside, &sheet, &mut rows, findings)?;
+    let Some(mut again) = sheet.rows_below(alloc, form)? else {
+        return Ok(Vec::new(alloc));
+    };
+    let lines = tell_bill_lines(
+        rt, alloc, form, beside, &sheet, &mut rows, &mut again, findings,
+    )?;
     loops_among(alloc, &beside.items, &sheet, &lines)
 }
 
 // Tells what is wrong with the tables from the stock to the bills.
 fn tell_first(
+    rt: &impl Threads,
     alloc: Global,
     sources: &[Option<Source<'_>>; 9],
     beside: &Beside,
@@ -319,7 +326,7 @@ fn tell_first(
         first,
         &mut findings,
     )?;
-    let loops = tell_bills(alloc, sources, beside, &mut findings)?;
+    let loops = tell_bills(rt, alloc, sources, beside, &mut findings)?;
     Ok(FirstTold { findings, loops })
 }
 
@@ -357,7 +364,7 @@ fn tell_last(
 // Tells what is wrong with the tables that look at others, in two threads if a second one can be started, and returns the sets of
 // items that need one another.
 fn tell_others(
-    rt: &impl Threads,
+    rt: &(impl Threads + Sync),
     alloc: Global,
     sources: &[Option<Source<'_>>; 9],
     beside: &Beside,
@@ -372,7 +379,7 @@ fn tell_others(
     { tell_last(alloc, sources, beside, version) };
     let read_first = move || -> Result<FirstTold, NoMemory>
         ensures { IfOk result (IsFirstTold sources.entry.now beside.entry.now) }
-    { tell_first(alloc, sources, beside) };
+    { tell_first(rt, alloc, sources, beside) };
     let (last, first) = thread::join(rt, read_last, read_first);
     let mut first = first?;
     let mut last = last?;
@@ -404,11 +411,11 @@ fn surveyed(
 
 /// All that is wrong with the records of nine tables, which stand in the order of the tables; a table without a text is not read.
 ///
-/// The tables behind the work centres are read in two threads if a second one can be started.
+/// The tables behind the work centres are read in up to three threads, as many as can be started.
 ///
 /// Errors: `NoMemory` if an allocation fails.
 pub fn survey(
-    rt: &impl Threads,
+    rt: &(impl Threads + Sync),
     alloc: Global,
     sources: &[Option<Source<'_>>; 9],
 ) -> Result<Survey, NoMemory>
