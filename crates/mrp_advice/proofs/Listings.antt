@@ -1,6 +1,5 @@
 -- Lines that are added one by one.
 use Rattle.std.proofs.Common.{◌≡◌, ◌∙◌, ℕ, ◌+◌, ◌<◌, ◌≤◌, List, [], ◌∷◌, ◌++◌, add-zero, append-nil, append_assoc, arith, codes, drop, get_or, length, map, ap, refl, sym}
-use Rattle.std.specs.Prelude.{◌==◌}
 use Rattle.std.proofs.lemmas.Bool.{ne_eqb}
 use Rattle.std.proofs.lemmas.List.{drop_all, drop_more, get_or-map, length-map}
 use Rattle.mrp_advice.specs.Listing.{Listed, lines_text, none_listed, remark_after, with_line, with_lines, with_listed}

@@ -1,6 +1,6 @@
 -- The lines of runs of faults, one by one.
 use Rattle.std.proofs.Common.{◌≡◌, ◌∙◌, ℕ, ◌+◌, ◌<◌, ◌≤◌, ◌-◌, Bool, true, false, Option, Some, None, List, [], ◌∷◌, ◌++◌, drop, get_or, length, map, ap, arith, refl, subst, sym}
-use Rattle.std.specs.Prelude.{◌==◌, if◌then◌else◌, not, slice_get}
+use Rattle.std.specs.Prelude.{if◌then◌else◌, not, slice_get}
 use Rattle.std.proofs.lemmas.List.{length-map, map-append}
 use Rattle.std.proofs.lemmas.List.{drop_all, drop_more}
 use Rattle.mrp_survey.specs.Finding.{Told}
