@@ -9,8 +9,8 @@ use Rattle.mrp_survey.specs.Surveyed.{Surveyed}
 use Rattle.mrp_inspect.specs.Inspected.{IsSurveyOf, WarnsIfOpened}
 use Rattle.mrp_inspect.proofs.inspecting.inspect_sources.Goals as goal
 
-pub returns-in-Err : goal.returns-in-Err
-returns-in-Err g c =
+pub returns : goal.returns
+returns g c =
     let both = c.survey_and_open-surveyed in
     let sources : List (Option Source) = c.args.sources.now in
     let opens : Opens c.args.bundle.now (Err c.in-Err.why) = subst (λ (r : Result (String Global) OpenFault). WarnsIfOpened c.args.bundle.now sources r) c.in-Err.is both.ensures.opened in
