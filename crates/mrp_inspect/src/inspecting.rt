@@ -30,8 +30,8 @@ use mrp_script::{OpenFault, open_shop};
 use mrp_survey::{Source, Survey, survey};
 use mrp_words::join_tables;
 use std::alloc::Global;
-use std::thread;
 use std::thread::Threads;
+use std::{mem, thread};
 
 /// What is told of a folder's files.
 #[derive(Drop)]
@@ -235,7 +235,12 @@ fn inspect_sources(
             text,
             has_faults: false,
         }),
-        Err(why) => inspect_refused(rt, alloc, found, firsts, strays, &survey, why),
+        Err(why) => {
+            let told = inspect_refused(rt, alloc, found, firsts, strays, &survey, why);
+            // Of each record with a fault it has a copy, and the program ends soon.
+            mem::forget(survey);
+            told
+        }
     }
 }
 
@@ -269,7 +274,8 @@ fn inspect_pieces(
 /// all faults, each with its file, line and column, with what planning says behind the first; where they are
 /// accepted tells warnings of what is odd. Nothing is planned.
 ///
-/// Tables are read and at the same time surveyed, in up to five threads, as many as can be started.
+/// Tables are read and at the same time surveyed, in up to five threads, as many as can be started. The memory of a survey that is
+/// told is not given back.
 ///
 /// Errors: `NoMemory` if an allocation fails.
 pub fn inspect(

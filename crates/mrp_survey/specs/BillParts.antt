@@ -30,15 +30,15 @@ abbrev pub unless : {X : Type 0} → Bool → List X → List X
 unless true xs = []
 unless false xs = xs
 
--- of the bills from the first on some are told of: all, or those up to one from which on the rest is left
-pub record TellsSome (form : Form) (beside : Beside) (records : Records) (first : ℕ) (rows : List AllCells) (past : ℕ) (rest : List AllCells) (some : BillsTold) : Type 0 where
-  pub told : bills_told form beside records first rows ≡ some.findings.items ++ unless some.is_end (bills_told form beside records past rest)
+-- of the bills from the first on some are told of, behind what was told before: all, or those up to one from which on the rest is left
+pub record TellsSome (form : Form) (beside : Beside) (records : Records) (before : List Told) (first : ℕ) (rows : List AllCells) (past : ℕ) (rest : List AllCells) (some : BillsTold) : Type 0 where
+  pub told : before ++ bills_told form beside records first rows ≡ some.findings.items ++ unless some.is_end (bills_told form beside records past rest)
   pub lines : lines_left form beside.items records first rows ≡ some.lines.items ++ unless some.is_end (lines_left form beside.items records past rest)
   pub left : some.is_end ≡ false → rest ≡ drop (past - first) rows
 
 -- those in front of the one of this number
-abbrev pub TellsFront : Form → Beside → Records → List AllCells → ℕ → BillsTold → Type 0
-TellsFront form beside records rows past front = (rest : List AllCells) × TellsSome form beside records 1 rows past rest front
+abbrev pub TellsFront : Form → Beside → Records → List Told → List AllCells → ℕ → BillsTold → Type 0
+TellsFront form beside records before rows past front = (rest : List AllCells) × TellsSome form beside records before 1 rows past rest front
 
 -- those from the one of this number on
 pub record TellsBack (form : Form) (beside : Beside) (records : Records) (rows : List AllCells) (first : ℕ) (back : BillsTold) : Type 0 where

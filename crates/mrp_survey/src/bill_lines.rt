@@ -21,8 +21,8 @@ use mrp_loops::Line;
 use mrp_qty::NoMemory;
 use mrp_rows::{Records, Table};
 use std::alloc::Global;
-use std::thread;
 use std::thread::Threads;
+use std::{mem, thread};
 
 // A bill line: the number of its record, and the places of its items.
 #[derive(Clone, Copy)]
@@ -78,7 +78,7 @@ pub(crate) struct BillsTold {
     is_end: bool,
 }
 
-// Tells what is wrong with bills from the one of a number on and up to one that is not read.
+// Tells, behind what was told before, what is wrong with bills from the one of a number on and up to one that is not read.
 fn tell_some(
     alloc: Global,
     form: Form,
@@ -87,16 +87,17 @@ fn tell_some(
     records: &mut Records<'_>,
     first: usize,
     past: usize,
+    before: Vec<Finding>,
 ) -> Result<BillsTold, NoMemory>
     requires bills { form.table ≡ Table.Bills }
     requires ahead { first ≤ past }
-    ensures { IfOk result (TellsSome form beside.now sheet.now first records.old past records.new) }
+    ensures { IfOk result (TellsSome form beside.now sheet.now before.items first records.old past records.new) }
 {
     let width = columns(form).len();
     let limit = most_records(form);
     // No two bills have to differ.
     let seen = Seen::new(alloc);
-    let mut findings = Vec::new(alloc);
+    let mut findings = before;
     let mut lines = Vec::new(alloc);
     let mut row = mrp_rows::Record::new(alloc);
     for number in first..past {
@@ -139,7 +140,7 @@ fn pass_over(alloc: Global, count: usize, records: &mut Records<'_>) -> Result<(
     Ok(())
 }
 
-// Tells what is wrong with the bills in front of the one of a number.
+// Takes findings out, and tells behind them what is wrong with the bills in front of the one of a number.
 fn tell_front(
     alloc: Global,
     form: Form,
@@ -147,12 +148,14 @@ fn tell_front(
     sheet: &Sheet<'_>,
     records: &mut Records<'_>,
     past: usize,
+    findings: &mut Vec<Finding>,
 ) -> Result<BillsTold, NoMemory>
     requires bills { form.table ≡ Table.Bills }
     requires ahead { 1 ≤ past }
-    ensures { IfOk result (TellsFront form beside.now sheet.now records.old past) }
+    ensures { IfOk result (TellsFront form beside.now sheet.now findings.old.items records.old past) }
 {
-    tell_some(alloc, form, beside, sheet, records, 1, past)
+    let before = mem::replace(findings, Vec::new(alloc));
+    tell_some(alloc, form, beside, sheet, records, 1, past, before)
 }
 
 // Tells what is wrong with the bills from the one of a number on.
@@ -169,7 +172,8 @@ fn tell_back(
     ensures { IfOk result (TellsBack form beside.now sheet.now records.old first) }
 {
     pass_over(alloc, first - 1, records)?;
-    let told = tell_some(alloc, form, beside, sheet, records, first, usize::MAX)?;
+    let none = Vec::new(alloc);
+    let told = tell_some(alloc, form, beside, sheet, records, first, usize::MAX, none)?;
     if told.is_end {
         Ok(told)
     } else {
@@ -178,23 +182,24 @@ fn tell_back(
     }
 }
 
-// What is told of all bills, from what is told of those in front and of those behind.
+// What is told of all bills, from what is told of those in front and of those behind, in place of the findings before.
 fn join_told(
     front: BillsTold,
     back: BillsTold,
     findings: &mut Vec<Finding>,
 ) -> Result<Vec<BillLine>, NoMemory>
-    ensures findings { OnOk result (findings.new.items ≡ findings.old.items ++ front.findings.items ++ unless front.is_end back.findings.items) }
+    ensures findings { OnOk result (findings.new.items ≡ front.findings.items ++ unless front.is_end back.findings.items) }
     ensures lines { IfOk result (λ lines. lines.items ≡ front.lines.items ++ unless front.is_end back.lines.items) }
 {
     let mut front = front;
     let mut back = back;
-    findings.append(&mut front.findings)?;
     if front.is_end {
+        *findings = front.findings;
         return Ok(front.lines);
     }
-    findings.append(&mut back.findings)?;
+    front.findings.append(&mut back.findings)?;
     front.lines.append(&mut back.lines)?;
+    *findings = front.findings;
     Ok(front.lines)
 }
 
@@ -216,11 +221,12 @@ pub(crate) fn tell_bill_lines(
     ensures lines { IfOk result (λ lines. lines.items ≡ bill_lines form beside.now.items sheet.now records.old) }
 {
     let middle = sheet.middle();
+    let before = &mut *findings;
     let read_front = move || -> Result<BillsTold, NoMemory>
         requires bills { form.table ≡ Table.Bills }
         requires ahead { 1 ≤ middle }
-        ensures { IfOk result (TellsFront form beside.entry.now sheet.entry.now records.entry.now middle) }
-    { tell_front(alloc, form, beside, sheet, records, middle) };
+        ensures { IfOk result (TellsFront form beside.entry.now sheet.entry.now before.entry.now.items records.entry.now middle) }
+    { tell_front(alloc, form, beside, sheet, records, middle, before) };
     let read_back = move || -> Result<BillsTold, NoMemory>
         requires bills { form.table ≡ Table.Bills }
         requires ahead { 1 ≤ middle }

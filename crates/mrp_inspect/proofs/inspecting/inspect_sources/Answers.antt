@@ -9,11 +9,11 @@ use Rattle.mrp_survey.specs.Surveyed.{Surveyed}
 use Rattle.mrp_inspect.specs.Inspected.{IsSurveyOf, WarnsIfOpened}
 use Rattle.mrp_inspect.proofs.inspecting.inspect_sources.Goals as goal
 
-pub returns : goal.returns
-returns g c =
+pub returns-in-Err : goal.returns-in-Err
+returns-in-Err g c =
     let both = c.survey_and_open-surveyed in
     let sources : List (Option Source) = c.args.sources.now in
     let opens : Opens c.args.bundle.now (Err c.in-Err.why) = subst (λ (r : Result (String Global) OpenFault). WarnsIfOpened c.args.bundle.now sources r) c.in-Err.is both.ensures.opened in
     let surveys : IsSurveyOf sources c.in_ok-survey.survey =
     subst (λ (r : Result Surveyed NoMemory). IfOk r (IsSurveyOf sources)) c.in_ok-survey.was both.ensures.surveyed in
-    c.inspect_refused.ensures c.args.bundle.now sources opens surveys
+    c.inspect_refused-told.ensures c.args.bundle.now sources opens surveys

@@ -2,8 +2,7 @@ use Rattle.std.proofs.Common.{◌≡◌, ◌∙◌, ◌+◌, ◌-◌, ◌++◌, 
 use Rattle.std.proofs.lemmas.List.{length-map}
 use Rattle.mrp_rows.specs.Shown.{shown_of}
 use Rattle.mrp_survey.specs.declared.bill_lines.BillLine.{BillLine}
-use Rattle.mrp_survey.specs.BillParts.{bills_told, lines_left}
-use Rattle.mrp_survey.specs.Finding.{Told}
+use Rattle.mrp_survey.specs.BillParts.{lines_left}
 use Rattle.mrp_survey.specs.Headers.{limit_of}
 use Rattle.mrp_survey.specs.Tables.{width_of}
 use Rattle.mrp_survey.proofs.BillSteps.{drop-next, left-next, left-none, left-past, lines-all, lines-further, no-key}
@@ -15,7 +14,7 @@ pub loop-number-init : goal.loop-number-init
 loop-number-init c =
     let none : 0 ≡ c.args.first - c.args.first = omega arith in
     record {
-      told = ap (λ (ts : List Told). ts ++ bills_told c.args.form c.args.beside.now c.args.sheet.now c.args.first c.args.records.now) (sym c.new-findings.ensures.items);
+      told = refl;
       lines = ap (λ (ls : List BillLine). ls ++ lines_left c.args.form c.args.beside.now.items c.args.sheet.now c.args.first c.args.records.now) (sym c.new-lines.ensures.items);
       left = ap (λ (n : ℕ). drop n c.args.records.now) none;
     }

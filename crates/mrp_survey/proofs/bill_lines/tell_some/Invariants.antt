@@ -4,7 +4,7 @@ use Rattle.mrp_survey.proofs.bill_lines.tell_some.Given as goal
 
 abbrev pub invariant-loop-number : goal.invariant-loop-number
 invariant-loop-number l = record {
-  told : bills_told l.form l.beside l.sheet l.first l.fn.records ≡ l.findings.items ++ bills_told l.form l.beside l.sheet l.number l.records;
+  told : l.fn.before.items ++ bills_told l.form l.beside l.sheet l.first l.fn.records ≡ l.findings.items ++ bills_told l.form l.beside l.sheet l.number l.records;
   lines : lines_left l.form l.beside.items l.sheet l.first l.fn.records ≡ l.lines.items ++ lines_left l.form l.beside.items l.sheet l.number l.records;
   left : l.records ≡ drop (l.number - l.first) l.fn.records;
 }
