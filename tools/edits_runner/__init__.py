@@ -8,6 +8,7 @@
   tools/edits --as-proved ..     reads the names of crates from standard input, a line each, once they and those below them
                                  are proved and built, and tries their edits once enough have come for a check, at the latest
                                  at the input's end; those of crates that are not named by then fail
+  tools/edits --in-turn ..       tries a third of the edits of functions that a crate keeps for itself, as the gate does (below)
   tools/edits --unspoiled ..     tries the copies without their edits, each of which has to be proved
   tools/edits --read ..          tries nothing: says within seconds which edits are bad, as one whose text has moved
   tools/edits --save FOLDER ..   keeps what each check said, and how long each function took, in a folder that is there
@@ -23,7 +24,7 @@ What an edit is
         new: TEXT                        what stands there instead
     Further pairs apply to what the earlier ones made, and further lines `of:` name further functions. It lies in the bodies
     of the functions that it names: no contract, type, constant, definition or proof is edited, since others stand on those.
-    A line `harmless: WHY` makes it a control.
+    A line `harmless: WHY` makes it a control, a line `always: WHY` has it tried in every turn.
 
 When an edit counts as refused
     One of the functions that it names is not proved for a reason of its own: the prover lists a goal of that function
@@ -75,8 +76,9 @@ Crates together
     A crate without other bodies is handed over as a library in source, a program without its `main`; the crate that is
     checked is an empty one above it. What is shown of a function is the same, but the prover suggests no text for goals that
     stay open: it does that only for the crate that it checks. So one check tries the edits of several crates, and loads once
-    what stands below them. Where the part of one is not believed, none is, and each crate is tried in a check of its own.
-    Crates go together only where all of them are known to be proved: by hand, those that have a library.
+    what stands below them; and one more what is left of several. Where the part of one is not believed, none is, and each half of
+    the crates is tried in a check. Crates go together only where all of them are known to be proved: by hand, those that have a
+    library.
 
 When such a check, a round, is believed
       - no two edits in place name one function, and their order makes no difference to the text;
@@ -88,6 +90,14 @@ When such a check, a round, is believed
     bodies and this one edit in its place. Only that may say 'not refused'.
     The rounds in the crate as it stands share what they proved, in a folder of this run: what the proofs cite is proved in
     the first and taken in the others. The prover keeps no refusal, and takes what it kept only where that is up to date.
+
+Turns
+    With --in-turn a run tries all edits of functions that other crates can call (public ones and those of traits), all that have
+    a line `always:`, the controls, and all that have changed, or whose crate has, in the six hours before the last commit (the
+    commits of one landing). Of the others, those of functions that a crate keeps for itself, it tries a third: the digest of the
+    last commit's tree draws which. And of a crate that has not changed it sees for a third of the functions that the goals that
+    edits name are shown of them as they stand. Such things hang by the crate and by what stands below, so a run most often says
+    what the run before said. An edit whose text has moved is bad in every turn.
 
 What an edit is a change of
     A refusal says something only where the function is proved as it stands. In the gate `rt ci` has said so before, and by
@@ -112,8 +122,8 @@ failed.
 Where the toolchain is another than the one that the runner knows, it says so at once and ends with status 2, since it reads
 the prover's words and takes the toolchain's own script as a module (toolchain.py).
 
-The modules, from the bottom up: `toolchain`; `bodies` (functions, as the layout tells them), `edit_files`, `copies`, `rounds`
-(what one check tries), `verdicts` (what a check says), `checks` (how it is run), `judging` (what is believed of it), `trial`
-(a crate's edits), `together` (those of several crates), `report`, `command`. Their tests are in `tests`; no prover has a part in
+The modules, from the bottom up: `toolchain`; `bodies` (functions, as the layout tells them), `edit_files`, `turns`, `copies`,
+`rounds` (what one check tries), `verdicts` (what a check says), `checks` (how it is run), `judging` (what is believed of it),
+`trial` (a crate's edits), `together` (those of several crates), `report`, `command`. Their tests are in `tests`; no prover has a part in
 them: `python3 -B -m unittest discover` in tools.
 """

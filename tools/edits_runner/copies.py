@@ -55,10 +55,11 @@ def copies_of(crate, edit, number, is_spoiled=True):
 
 
 def standing_copies(crate, edits):
-    """A copy, as it stands, of each function of which edits name goals without a written answer, to try these goals of it."""
+    """A copy, as it stands, of each function of which edits name goals without a written answer, to try these goals of it, but those
+    that are left to other turns."""
     copies = {}
     for edit in edits:
-        if not edit.goal or not edit.goal.binds:
+        if not edit.goal or not edit.goal.binds or edit.goal.is_left:
             continue
         (path,) = edit.functions
         file, old, _, at = next(changed_by(crate, edit))
