@@ -8,7 +8,7 @@
   tools/edits --as-proved ..     reads the names of crates from standard input, a line each, once they and those below them
                                  are proved and built, and tries their edits once enough have come for a check, at the latest
                                  at the input's end; those of crates that are not named by then fail
-  tools/edits --in-turn ..       tries a third of the edits of functions that a crate keeps for itself, as the gate does (below)
+  tools/edits --in-turn ..       tries a third of the edits whose verdict the landing before has told, as the gate does (below)
   tools/edits --unspoiled ..     tries the copies without their edits, each of which has to be proved
   tools/edits --read ..          tries nothing: says within seconds which edits are bad, as one whose text has moved
   tools/edits --save FOLDER ..   keeps what each check said, and how long each function took, in a folder that is there
@@ -76,9 +76,9 @@ Crates together
     A crate without other bodies is handed over as a library in source, a program without its `main`; the crate that is
     checked is an empty one above it. What is shown of a function is the same, but the prover suggests no text for goals that
     stay open: it does that only for the crate that it checks. So one check tries the edits of several crates, and loads once
-    what stands below them; and one more what is left of several. Where the part of one is not believed, none is, and each half of
-    the crates is tried in a check. Crates go together only where all of them are known to be proved: by hand, those that have a
-    library.
+    what stands below them, and a further one what is left of several. Where the part of one is not believed, none is, and each
+    half of the crates is tried so. Crates go together only where all of them are known to be proved: by hand, those that have
+    a library.
 
 When such a check, a round, is believed
       - no two edits in place name one function, and their order makes no difference to the text;
@@ -92,12 +92,15 @@ When such a check, a round, is believed
     the first and taken in the others. The prover keeps no refusal, and takes what it kept only where that is up to date.
 
 Turns
-    With --in-turn a run tries all edits of functions that other crates can call (public ones and those of traits), all that have
-    a line `always:`, the controls, and all that have changed, or whose crate has, in the six hours before the last commit (the
-    commits of one landing). Of the others, those of functions that a crate keeps for itself, it tries a third: the digest of the
-    last commit's tree draws which. And of a crate that has not changed it sees for a third of the functions that the goals that
-    edits name are shown of them as they stand. Such things hang by the crate and by what stands below, so a run most often says
-    what the run before said. An edit whose text has moved is bad in every turn.
+    With --in-turn an edit may wait where its verdict has to be that of the landing before: since then neither it nor its
+    crate nor any below has changed (all their files but edits, and their lines in crates.txt), nor has the toolchain's
+    version. Of these edits a run tries a third, which the digest of the last commit's tree draws. Controls and edits with a
+    line `always:` never wait. An edit whose text has moved is bad in every turn.
+    The landing before is the commit that tools/landed names. Whoever begins a change writes there the commit that landed
+    last; an older one makes more count as changed, and nothing worse. Where git does not tell of that commit, as in a history
+    cut short, or where the last one does not stand on it, nothing waits.
+    A change of the runner makes nothing count as changed: a third of all edits, and all of the crates that have changed, are a
+    trial of it. Whoever changes what it believes tries all once, without --in-turn.
 
 What an edit is a change of
     A refusal says something only where the function is proved as it stands. In the gate `rt ci` has said so before, and by
@@ -122,8 +125,8 @@ failed.
 Where the toolchain is another than the one that the runner knows, it says so at once and ends with status 2, since it reads
 the prover's words and takes the toolchain's own script as a module (toolchain.py).
 
-The modules, from the bottom up: `toolchain`; `bodies` (functions, as the layout tells them), `edit_files`, `turns`, `copies`,
-`rounds` (what one check tries), `verdicts` (what a check says), `checks` (how it is run), `judging` (what is believed of it),
-`trial` (a crate's edits), `together` (those of several crates), `report`, `command`. Their tests are in `tests`; no prover has a part in
-them: `python3 -B -m unittest discover` in tools.
+The modules, from the bottom up: `toolchain`; `bodies` (functions, as the layout tells them), `edit_files`, `turns` (which edits
+wait), `copies`, `rounds` (what one check tries), `verdicts` (what a check says), `checks` (how it is run), `judging` (what is
+believed of it), `trial` (a crate's edits), `together` (those of several crates), `report`, `command`. Their tests are in `tests`;
+no prover has a part in them: `python3 -B -m unittest discover` in tools.
 """

@@ -55,11 +55,10 @@ def copies_of(crate, edit, number, is_spoiled=True):
 
 
 def standing_copies(crate, edits):
-    """A copy, as it stands, of each function of which edits name goals without a written answer, to try these goals of it, but those
-    that are left to other turns."""
+    """A copy, as it stands, of each function of which edits name goals without a written answer, to try these goals of it."""
     copies = {}
     for edit in edits:
-        if not edit.goal or not edit.goal.binds or edit.goal.is_left:
+        if not edit.goal or not edit.goal.binds:
             continue
         (path,) = edit.functions
         file, old, _, at = next(changed_by(crate, edit))

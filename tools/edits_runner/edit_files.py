@@ -10,12 +10,10 @@ from .bodies import body_at, files_of, modules_of_types, path_of
 
 @dataclass(frozen=True)
 class Goal:
-    """A goal of a function's proof, by its name, and what an answer of it binds, or nothing where the answer is written; and whether
-    it is left to other turns that it is shown of the function as it stands."""
+    """A goal of a function's proof, by its name, and what an answer of it binds, or nothing where the answer is written."""
 
     name: str
     binds: str = ""
-    is_left: bool = False
 
 
 @dataclass(eq=False)

@@ -26,7 +26,7 @@ class Report:
             self.failures.extend([line] * (not is_well))
 
     def leave(self, count):
-        """Takes so many edits as left to other turns."""
+        """Takes so many edits as waiting for other turns."""
         with self.printing:
             self.left += count
 
@@ -40,15 +40,15 @@ class Report:
                 self.failures.append(line)
 
     def close(self, files):
-        """Says what failed, and how many did; where there are files, each has to be among what was tried or is left to other turns,
-        and some controls among the former."""
+        """Says what failed, and how many did; where there are files, each has to be among what was tried or waits, and some
+        controls among the former."""
         tried = self.passed + self.failed
         if self.left:
-            print(f"{self.left} edits of functions that their crates keep for themselves are left to other turns")
+            print(f"{self.left} edits wait for another turn")
         if files and (tried + self.left != len(files) or not self.controls):
             self.failed += 1
             print(f"{len(files)} edits stand in the crates' folders, {tried} were tried, {self.controls} of them controls")
-        if not tried:
+        if not tried + self.left:
             self.failed += 1
             print("no edit was tried")
         used = resource.getrusage(resource.RUSAGE_CHILDREN)

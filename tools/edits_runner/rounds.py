@@ -33,12 +33,11 @@ class Round:
 
     def settle(self, told):
         """Calls refused each copy with an edit whose goal is not shown, where it is of the function as it stands: by the same
-        answer, or by a written one, or as other turns tell."""
+        answer, or by a written one."""
         for copy in self.copies:
             for goal in copy.goals if not copy.is_as_it_stands() else ():
                 why = told.not_shown.get((copy.path, goal.name))
-                is_of_another = not goal.binds or goal.is_left
-                if why and (is_of_another or (f"{copy.original}{STANDING}", goal.name) in told.shown):
+                if why and (not goal.binds or (f"{copy.original}{STANDING}", goal.name) in told.shown):
                     told.refused[copy.path] = why
 
     def in_error(self, errors):

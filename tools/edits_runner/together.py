@@ -5,17 +5,17 @@ import threading
 from .edit_files import edits_of
 from .judging import judge_rounds
 from .trial import Trial
-from .turns import as_tried, waits
+from .turns import waits
 
 # So many edits are worth a check, and crates with fewer wait for others; so many are the most, unless one crate has more.
 TOGETHER, MOST_TOGETHER = 50, 100
 
 
 def edits_now(crate, words, turn):
-    """The edits of a crate whose names have one of these words, or all without words: those that are tried in this turn, how many
-    are left to others, and (name, why) of each that is bad."""
+    """The edits of a crate whose names have one of these words, or all without words: those that are tried in this turn, how
+    many wait for others, and (name, why) of each that is bad."""
     good, bad = edits_of(crate, words)
-    now = [as_tried(crate, edit, turn) for edit in good if not waits(crate, edit, turn)]
+    now = [edit for edit in good if not waits(crate, edit, turn)]
     return now, len(good) - len(now), bad
 
 

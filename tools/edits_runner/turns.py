@@ -1,85 +1,95 @@
-"""Turns: of the edits of functions that a crate keeps for itself, and of the functions as they stand, a run may try a third, as the
-last commit draws it."""
+"""Turns: of the edits whose verdict the landing before has told, a run may try a third, as the last commit draws it."""
 
 import re
 import subprocess
 import zlib
-from dataclasses import dataclass, replace
+from dataclasses import dataclass
 
-from .bodies import body_at
-from .edit_files import changed_by
+from . import toolchain
 
 TURNS = 3
-# Hours in which the commits of one landing are made.
-LANDING = 6
-PUBLIC = re.compile(r" *pub (?:unsafe )?fn ")
-OF_A_TRAIT = re.compile(r" for |\btrait\b")
+# Names the commit that landed last.
+LANDED = "tools/landed"
+
+OF_A_CRATE = re.compile(r"crates/([^/]+)/(?!edits/|must-fail/)")
+OF_AN_EDIT = re.compile(r"crates/([^/]+)/(?:edits|must-fail)/(?:.*/)?([^/]+)")
 
 
 @dataclass(frozen=True)
 class Turn:
-    """Which third it is, and what has changed since the landing before: crates, but for their edits, and edits, as `CRATE/NAME`."""
+    """Which third it is, which commit landed before, and what has changed since: crates, but for their edits, and edits, as
+    `CRATE/NAME`."""
 
     number: int
+    landed: str = ""
     changed: frozenset = frozenset()
     edits: frozenset = frozenset()
 
-
-def told_by_git(top, *words):
-    """What git says of the repository at this folder, or nothing where it fails."""
-    how = {"stdin": subprocess.DEVNULL, "capture_output": True, "text": True, "errors": "replace", "check": False}
-    try:
-        ran = subprocess.run(["git", "-C", top, *words], **how)
-    except OSError:
-        return ""
-    return "" if ran.returncode else ran.stdout.strip()
-
-
-def landing_before(top):
-    """The commit that stood some hours before the last one, on its line of first parents, or where that is younger, its root."""
-    made = told_by_git(top, "log", "-1", "--format=%ct")
-    before = f"--before={int(made) - 3600 * LANDING}" if made.isdigit() else ""
-    found = before and told_by_git(top, "rev-list", "-1", "--first-parent", before, "HEAD")
-    return found or told_by_git(top, "rev-list", "--first-parent", "HEAD").rpartition("\n")[2]
-
-
-def turn_at(top):
-    """The turn that the last commit draws by its tree, or None where git tells of none: then nothing waits. What has changed is told
-    as far as the history reaches."""
-    tree = told_by_git(top, "rev-parse", "HEAD^{tree}")
-    if not re.fullmatch(r"[0-9a-f]{40,}", tree):
-        return None
-    files = told_by_git(top, "diff", "--name-only", landing_before(top), "--", "crates") + "\n"
-    files += told_by_git(top, "diff", "--name-only", "HEAD", "--", "crates") + "\n"
-    files += told_by_git(top, "ls-files", "--others", "--exclude-standard", "--", "crates")
-    crates = re.findall(r"(?m)^crates/([^/]+)/(?:src|specs|proofs)/", files)
-    edits = re.findall(r"(?m)^crates/([^/]+)/(?:edits|must-fail)/(.*)$", files)
-    return Turn(int(tree, 16) % TURNS, frozenset(crates), frozenset(map("/".join, edits)))
-
-
-def is_left(crate, what, turn):
-    """Whether something of a crate is left to other turns. Nothing is where there is no turn, or where the crate has changed."""
-    return turn is not None and crate.name not in turn.changed and zlib.crc32(what.encode()) % TURNS != turn.number
+    def has_changed(self, crate):
+        """Whether a crate has changed, or one of those that it stands on."""
+        return not self.changed.isdisjoint(it.name for it in [crate, *crate.below()])
 
 
 def waits(crate, edit, turn):
-    """Whether an edit is left to other turns."""
+    """Whether an edit waits for another turn. Where there is no turn, none does."""
     name = f"{crate.name}/{edit.name}"
-    if edit.is_always_tried or edit.is_harmless or not is_left(crate, name, turn) or name in turn.edits:
+    if turn is None or edit.is_always_tried or edit.is_harmless or name in turn.edits or turn.has_changed(crate):
         return False
-    return not changes_what_others_call(crate, edit)
+    return zlib.crc32(name.encode()) % TURNS != turn.number
 
 
-def as_tried(crate, edit, turn):
-    """An edit as a turn tries it: of two thirds of the functions it is left to others whether a goal is one of the function as it
-    stands."""
-    is_named = edit.goal and edit.goal.binds and f"{crate.name}/{edit.name}" not in (turn.edits if turn else ())
-    if is_named and is_left(crate, min(edit.functions), turn):
-        return replace(edit, goal=replace(edit.goal, is_left=True))
-    return edit
+# ---- what git tells
+
+class NoTurn(Exception):
+    """Nothing may wait, and why: git tells of no earlier landing, or another toolchain proved that one."""
 
 
-def changes_what_others_call(crate, edit):
-    """Whether an edit changes a function that other crates can call, as far as the layout tells: a public one, or a trait's."""
-    found = ((old, body_at(old, at)) for _, old, _, at in changed_by(crate, edit))
-    return any(PUBLIC.match(old[body.head]) or OF_A_TRAIT.search(body.owner) for old, body in found)
+def turn_at(top, version):
+    """The turn that the last commit draws by its tree, where the toolchain is of this version. Raises NoTurn."""
+    landed = landing_before(top)
+    proved_with = toolchain.named_by(told_by_git(top, "show", f"{landed}:{toolchain.NAMING}"))
+    if proved_with != version:
+        raise NoTurn(f"{landed[:8]} was proved with {proved_with}, and this is {version}")
+    tree = told_by_git(top, "rev-parse", "HEAD^{tree}").strip()
+    paths = files_changed(top, landed)
+    crates = {it[1] for it in map(OF_A_CRATE.match, paths) if it} | crates_moved(top, landed)
+    edits = {f"{it[1]}/{it[2]}" for it in map(OF_AN_EDIT.fullmatch, paths) if it}
+    return Turn(int(tree, 16) % TURNS, landed, frozenset(crates), frozenset(edits))
+
+
+def landing_before(top):
+    """The commit that landed last, as a file names it, on which the last commit has to stand. Raises NoTurn."""
+    try:
+        with open(f"{top}/{LANDED}", encoding="utf-8") as held:
+            named = held.read().strip()
+    except (OSError, ValueError) as error:
+        raise NoTurn(f"{LANDED}: {error}") from error
+    if not re.fullmatch(r"[0-9a-f]{40,}", named):
+        raise NoTurn(f"{LANDED} names no commit")
+    told_by_git(top, "merge-base", "--is-ancestor", named, "HEAD")
+    return named
+
+
+def files_changed(top, landed):
+    """The files of crates that differ from those of a commit, in later ones or in the folder as it is. Raises NoTurn."""
+    told = told_by_git(top, "diff", "--name-only", "--no-renames", "-z", landed, "--", "crates")
+    return (told + told_by_git(top, "ls-files", "--others", "--exclude-standard", "-z", "--", "crates")).split("\0")
+
+
+def crates_moved(top, landed):
+    """The crates that stand on others than at a commit. Raises NoTurn."""
+    with open(f"{top}/crates.txt", encoding="utf-8") as held:
+        lines = {*held.read().splitlines()} ^ {*told_by_git(top, "show", f"{landed}:crates.txt").splitlines()}
+    return {re.split("[ :]", line)[0] for line in lines}
+
+
+def told_by_git(top, *words):
+    """What git says of the repository at this folder. Raises NoTurn where it fails."""
+    how = {"stdin": subprocess.DEVNULL, "capture_output": True, "text": True, "errors": "surrogateescape", "check": False}
+    try:
+        ran = subprocess.run(["git", "-C", top, *words], **how)
+    except OSError as error:
+        raise NoTurn(f"there is no git: {error}") from error
+    if ran.returncode:
+        raise NoTurn(f"`git {' '.join(words[:2])}` says: {ran.stderr.strip() or 'no'}")
+    return ran.stdout

@@ -170,5 +170,5 @@ class Reports(unittest.TestCase):
     def test_what_is_left_to_other_turns_is_counted(self):
         text, status = self.closed([(True, True)], ["a", "b", "c"], left=2)
         self.assertEqual(status, 0)
-        self.assertIn("2 edits of functions that their crates keep for themselves are left to other turns", text)
+        self.assertIn("2 edits wait for another turn", text)
         self.assertEqual(self.closed([(True, True)], ["a", "b", "c"], left=1)[1], 1)

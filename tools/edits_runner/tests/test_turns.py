@@ -1,88 +1,61 @@
 import os
 import subprocess
+from unittest.mock import patch
 
-from ..copies import copies_of, standing_copies
+from .. import command
 from ..edit_files import edits_of
-from ..rounds import round_of
 from ..together import Waiting, edits_now
-from ..turns import TURNS, Turn, turn_at, waits
-from ..verdicts import Told
+from ..toolchain import NAMING
+from ..turns import LANDED, TURNS, NoTurn, Turn, turn_at, waits
 from .made_up import Crate, InAFolder
-
-SUM = ("one + other;", "one;")
 
 
 class Turns(InAFolder):
-    def lay_own(self, count):
-        """A crate `own` with so many edits of a function that it keeps for itself."""
+    def lay_own(self, count, more=""):
+        """A crate `own` with so many edits of a public function, over a crate `low`."""
         lines = "".join(f"    let sum = one + {at};\n" for at in range(count))
-        self.lay("own/src/lib.rt", f"fn add(one: u64) {{\n{lines}}}\n")
+        self.lay("own/src/lib.rt", f"pub fn add(one: u64) {{\n{lines}}}\n")
         for at in range(count):
-            self.lay(f"own/edits/a_sum_of_{at}.edit", f"of: add\nfile: src/lib.rt\nold: one + {at};\nnew: one;\n")
-        return Crate("own", f"{self.room}/own")
+            self.lay(f"own/edits/a_sum_of_{at}.edit", f"{more}of: add\nfile: src/lib.rt\nold: one + {at};\nnew: one;\n")
+        lowest = Crate("lowest", f"{self.room}/lowest")
+        low = Crate("low", f"{self.room}/low", deps=[lowest])
+        return Crate("own", f"{self.room}/own", deps=[low])
 
-    def waiting(self, crate, changed=()):
+    def waiting(self, crate, changed=(), edits=()):
         """The names of the edits that wait, turn by turn."""
         good, bad = edits_of(crate, [])
         self.assertEqual(bad, [])
-        turns = [Turn(number, frozenset(changed)) for number in range(TURNS)]
+        turns = [Turn(number, "", frozenset(changed), frozenset(edits)) for number in range(TURNS)]
         return [[edit.name for edit in good if waits(crate, edit, turn)] for turn in turns]
 
     def test_each_is_tried_in_one_turn(self):
         waiting = self.waiting(self.lay_own(30))
         counts = [sum(f"a_sum_of_{at}.edit" in it for it in waiting) for at in range(30)]
         self.assertEqual(counts, [TURNS - 1] * 30)
-        self.assertTrue(all(len(it) < 30 for it in waiting))
+        self.assertTrue(all(0 < len(it) < 30 for it in waiting))
 
-    def test_one_that_has_changed_does_not_wait(self):
+    def test_none_waits_where_its_crate_or_one_below_has_changed(self):
         own = self.lay_own(9)
-        turns = [Turn(number, edits=frozenset({"own/a_sum_of_3.edit"})) for number in range(TURNS)]
-        names = [{edit.name for edit in edits_of(own, [])[0] if waits(own, edit, turn)} for turn in turns]
-        self.assertFalse(any("a_sum_of_3.edit" in it for it in names))
-        self.assertTrue(any(names))
+        for name in ("own", "low", "lowest"):
+            self.assertEqual(self.waiting(own, changed=[name]), [[]] * TURNS, name)
+        self.assertEqual(self.waiting(own, changed=["another"]), self.waiting(own))
 
-    def test_none_waits_where_there_is_no_turn_or_the_crate_has_changed(self):
+    def test_none_waits_where_there_is_no_turn(self):
         own = self.lay_own(9)
-        self.assertEqual(self.waiting(own, changed=["own"]), [[]] * TURNS)
         self.assertFalse(any(waits(own, edit, None) for edit in edits_of(own, [])[0]))
 
-    def test_what_others_call_waits_for_no_turn(self):
-        self.lay_edit("a_sum", "shop::add", *SUM)
-        self.lay_edit("a_take", "shop::Shop::take", "self.parts.pop()", "None", "src/shop/steps.rt")
-        self.lay_edit("a_clone", "shop::ShopClone::clone", "self.parts.clone()", "Vec::new()")
-        self.assertEqual(self.waiting(self.small()), [[]] * TURNS)
+    def test_one_that_has_changed_does_not_wait(self):
+        waiting = self.waiting(self.lay_own(9), edits=["own/a_sum_of_3.edit", "low/a_sum_of_4.edit"])
+        counts = [sum(f"a_sum_of_{at}.edit" in it for it in waiting) for at in (3, 4)]
+        self.assertEqual(counts, [0, TURNS - 1])
 
-    def test_controls_and_what_is_always_tried(self):
-        self.lay_own(1)
-        for line in ("harmless: the same\n", "always: each row is told twice\n"):
-            self.lay("own/edits/a_sum_of_0.edit", f"{line}of: add\nfile: src/lib.rt\nold: one + 0;\nnew: one;\n")
-            self.assertEqual(self.waiting(Crate("own", f"{self.room}/own")), [[]] * TURNS)
-
-    def test_goals_of_functions_as_they_stand(self):
-        self.lay_edit("a_sum", "shop::add", *SUM, more="goal: returns c\n")
-        small = self.small()
-
-        def standing(turn):
-            return standing_copies(small, edits_now(small, [], turn)[0])
-
-        self.assertEqual(sorted(len(standing(Turn(number))) for number in range(TURNS)), [0] * (TURNS - 1) + [1])
-        self.assertEqual(len(standing(None)), 1)
-        self.assertEqual([len(standing(Turn(number, frozenset({"small"})))) for number in range(TURNS)], [1] * TURNS)
-
-    def test_a_goal_that_is_left_refuses_as_other_turns_tell(self):
-        self.lay_edit("a_sum", "shop::add", *SUM, more="goal: returns c\n")
-        small = self.small()
-        for number in range(TURNS):
-            ((edit,), _, _) = edits_now(small, [], Turn(number))
-            tried = round_of(small, [edit], {edit: copies_of(small, edit, 0)})
-            told = Told(not_shown={("small::shop::add_spoiled_0", "returns"): "it differs"})
-            tried.settle(told)
-            self.assertEqual(bool(told.refused), edit.goal.is_left)
+    def test_controls_and_what_is_always_tried_do_not_wait(self):
+        for more in ("harmless: the same\n", "always: each row is told twice\n"):
+            self.assertEqual(self.waiting(self.lay_own(9, more)), [[]] * TURNS)
 
     def test_what_moved_is_bad_in_every_turn(self):
         own = self.lay_own(9)
-        for at in range(9):
-            self.lay(f"own/edits/a_sum_of_{at}.edit", "of: add\nfile: src/lib.rt\nold: gone\nnew: one;\n")
+        self.lay("own/src/lib.rt", "pub fn add(one: u64) {\n    one;\n}\n")
         for number in range(TURNS):
             now, left, bad = edits_now(own, [], Turn(number))
             self.assertEqual((now, left, len(bad)), ([], 0, 9))
@@ -92,48 +65,119 @@ class Turns(InAFolder):
         waiting = Waiting([], Turn(0))
         waiting.add(own)
         now, left, _ = edits_now(own, [], Turn(0))
-        self.assertEqual(waiting.counts[own], len(now))
-        self.assertEqual(len(now) + left, 9)
+        self.assertEqual((waiting.counts[own], left), (len(now), 9 - len(now)))
+
+
+KIT = "rattle-kit-0"
 
 
 class ByGit(InAFolder):
-    def commit(self, hour):
+    """A repository with two crates, of which the first commit has landed."""
+
+    def git(self, *words, folder=None):
         who = ["-c", "user.name=a", "-c", "user.email=a@b.c", "-c", "commit.gpgsign=false"]
-        when = {**os.environ, "GIT_COMMITTER_DATE": f"2026-01-02T{hour:02}:00:00Z"}
-        for words in (["add", "-A"], [*who, "commit", "-q", "--no-verify", "-m", "so"]):
-            subprocess.run(["git", "-C", self.room, *words], check=True, env=when)
+        ran = subprocess.run(["git", "-C", folder or self.room, *who, *words], check=True, capture_output=True, text=True)
+        return ran.stdout.strip()
+
+    def commit(self):
+        self.git("add", "-A")
+        self.git("commit", "-q", "--no-verify", "-m", "so")
+        return self.git("rev-parse", "HEAD")
 
     def setUp(self):
         super().setUp()
-        subprocess.run(["git", "init", "-q", self.room], check=True)
+        self.git("init", "-q")
+        self.lay("crates.txt", "one:\ntwo: one\n")
+        self.lay("crates/one/src/lib.rt", "//! One.\n\n//! It has lines enough.\n\n//! It is moved.\n")
+        self.lay("crates/two/specs/Two.antt", "-- Two.\n")
+        self.lay(NAMING, f'const VERSION: &str = "0.1.0 (proved with {KIT})";\n')
+        self.first = self.commit()
+        self.lay(LANDED, f"{self.first}\n")
+        self.second = self.commit()
 
-    def test_no_history(self):
-        self.assertIsNone(turn_at(f"{self.room}/nowhere"))
-        self.assertIsNone(turn_at(self.room))
+    def changed(self):
+        return turn_at(self.room, KIT).changed
 
-    def test_what_has_changed_since_the_first_commit(self):
-        self.lay("crates/one/src/lib.rt", "//! One.\n")
-        self.lay("crates/two/src/lib.rt", "//! Two.\n")
-        self.commit(1)
-        self.assertEqual(turn_at(self.room).changed, frozenset())
-        first = turn_at(self.room)
+    def assert_no_turn(self, why, top=None, version=KIT):
+        with self.assertRaisesRegex(NoTurn, why):
+            turn_at(top or self.room, version)
+
+    def test_nothing_has_changed(self):
+        turn = turn_at(self.room, KIT)
+        self.assertEqual((turn.landed, turn.changed, turn.edits), (self.first, frozenset(), frozenset()))
+        self.assertIn(turn.number, range(TURNS))
+
+    def test_crates_change_by_commits_and_by_what_none_has(self):
         self.lay("crates/one/src/lib.rt", "//! The one.\n")
-        self.assertEqual(turn_at(self.room), Turn(first.number, frozenset({"one"})))
-        self.commit(2)
-        self.assertEqual(turn_at(self.room).changed, {"one"})
-        self.lay("crates/three/src/lib.rt", "//! Three.\n")
-        self.assertEqual(turn_at(self.room).changed, {"one", "three"})
-        self.assertIn(turn_at(self.room).number, range(TURNS))
+        self.assertEqual(self.changed(), {"one"})
+        self.commit()
+        self.assertEqual(self.changed(), {"one"})
+        self.lay("crates/three/proofs/Three.antt", "-- Three.\n")
+        self.assertEqual(self.changed(), {"one", "three"})
+        os.remove(f"{self.room}/crates/two/specs/Two.antt")
+        self.assertEqual(self.changed(), {"one", "two", "three"})
 
-    def test_a_landing_has_commits_of_some_hours(self):
-        for at, (name, hour) in enumerate((("one", 1), ("two", 10), ("three", 11), ("four", 12))):
-            self.lay(f"crates/{name}/src/lib.rt", f"//! {at}.\n")
-            self.commit(hour)
-        self.assertEqual(turn_at(self.room).changed, {"two", "three", "four"})
+    def test_a_file_that_moves_changes_both_crates(self):
+        os.rename(f"{self.room}/crates/one/src/lib.rt", f"{self.room}/crates/two/lib.rt")
+        self.assertEqual(self.changed(), {"one", "two"})
+        self.commit()
+        self.assertEqual(self.changed(), {"one", "two"})
+
+    def test_a_name_that_git_would_quote(self):
+        self.lay("crates/one/src/ä b.rt", "//! One.\n")
+        self.assertEqual(self.changed(), {"one"})
+        self.commit()
+        self.assertEqual(self.changed(), {"one"})
+
+    def test_a_crate_that_stands_on_another_has_changed(self):
+        self.lay("crates.txt", "one: itoa\ntwo: one\nthree may_wait=3: two\n")
+        self.assertEqual(self.changed(), {"one", "three"})
 
     def test_a_changed_edit_is_no_change_of_its_crate(self):
-        self.lay("crates/one/src/lib.rt", "//! One.\n")
-        self.commit(1)
         self.lay("crates/one/edits/a.edit", "of: add\n")
-        self.lay("crates/one/README.md", "One.\n")
-        self.assertEqual((turn_at(self.room).changed, turn_at(self.room).edits), (frozenset(), {"one/a.edit"}))
+        self.lay("crates/one/must-fail/more/b.edit", "of: add\n")
+        turn = turn_at(self.room, KIT)
+        self.assertEqual((turn.changed, turn.edits), (frozenset(), {"one/a.edit", "one/b.edit"}))
+
+    def test_another_toolchain(self):
+        self.assert_no_turn("was proved with rattle-kit-0", version="rattle-kit-1")
+
+    def test_no_landing_is_named(self):
+        for text in ("", "HEAD\n", "main\n"):
+            self.lay(LANDED, text)
+            self.assert_no_turn("names no commit")
+        os.remove(f"{self.room}/{LANDED}")
+        self.assert_no_turn("No such file")
+
+    def test_a_landing_that_git_does_not_know(self):
+        self.lay(LANDED, f"{'0' * 40}\n")
+        self.assert_no_turn("merge-base")
+
+    def test_a_landing_on_which_the_last_commit_does_not_stand(self):
+        self.lay("crates/one/src/lib.rt", "//! The one.\n")
+        later = self.commit()
+        self.git("reset", "-q", "--hard", self.second)
+        self.lay(LANDED, f"{later}\n")
+        self.assert_no_turn("merge-base")
+
+    def test_a_history_that_is_cut_short(self):
+        shallow = f"{self.room}/shallow"
+        self.git("clone", "-q", "--depth", "1", f"file://{self.room}", shallow)
+        self.assert_no_turn("merge-base", shallow)
+        self.git("fetch", "-q", "--unshallow", folder=shallow)
+        self.assertEqual(turn_at(shallow, KIT).landed, self.first)
+
+    def test_no_repository(self):
+        self.lay(f"elsewhere/{LANDED}", f"{self.first}\n")
+        with patch.dict("os.environ", {"GIT_CEILING_DIRECTORIES": self.room}):
+            self.assert_no_turn("merge-base", f"{self.room}/elsewhere")
+        with patch.dict("os.environ", {"PATH": "/nowhere"}):
+            self.assert_no_turn("there is no git")
+
+    def test_it_is_said_why_none_waits(self):
+        with patch.object(command.toolchain, "version", lambda: KIT), patch("builtins.print") as said:
+            self.assertEqual(command.turn_told(self.room).landed, self.first)
+            self.assertIn("0 crates have changed", said.call_args[0][0])
+            os.remove(f"{self.room}/{LANDED}")
+            self.assertIsNone(command.turn_told(self.room))
+            self.assertIn("no edit waits for another turn", said.call_args[0][0])
