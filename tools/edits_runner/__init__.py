@@ -8,7 +8,7 @@
   tools/edits --as-proved ..     reads the names of crates from standard input, a line each, once they and those below them
                                  are proved and built, and tries their edits once enough have come for a check, at the latest
                                  at the input's end; those of crates that are not named by then fail
-  tools/edits --in-turn ..       tries a third of the edits whose verdict the landing before has told, as the gate does (below)
+  tools/edits --in-turn ..       tries a part of the edits whose verdict the landing before has told, as the gate does (below)
   tools/edits --unspoiled ..     tries the copies without their edits, each of which has to be proved
   tools/edits --read ..          tries nothing: says within seconds which edits are bad, as one whose text has moved
   tools/edits --save FOLDER ..   keeps what each check said, and how long each function took, in a folder that is there
@@ -94,13 +94,13 @@ When such a check, a round, is believed
 Turns
     With --in-turn an edit may wait where its verdict has to be that of the landing before: since then neither it nor its
     crate nor any below has changed (all their files but edits, and their lines in crates.txt), nor has the toolchain's
-    version. Of these edits a run tries a third, which the digest of the last commit's tree draws. Controls and edits with a
-    line `always:` never wait. An edit whose text has moved is bad in every turn.
+    version. Of these a run tries the edits of a third of the functions, which the digest of the last commit's tree draws.
+    Controls and edits with a line `always:` never wait. An edit whose text has moved is bad in every turn.
     The landing before is the commit that tools/landed names. Whoever begins a change writes there the commit that landed
     last; an older one makes more count as changed, and nothing worse. Where git does not tell of that commit, as in a history
     cut short, or where the last one does not stand on it, nothing waits.
-    A change of the runner makes nothing count as changed: a third of all edits, and all of the crates that have changed, are a
-    trial of it. Whoever changes what it believes tries all once, without --in-turn.
+    A change of the runner makes nothing count as changed: what is tried is a trial of it. Whoever changes what it believes
+    tries all once, without --in-turn.
 
 What an edit is a change of
     A refusal says something only where the function is proved as it stands. In the gate `rt ci` has said so before, and by

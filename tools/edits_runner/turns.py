@@ -1,4 +1,5 @@
-"""Turns: of the edits whose verdict the landing before has told, a run may try a third, as the last commit draws it."""
+"""Turns: of the edits whose verdict the landing before has told, a run may try those of a third of the functions, as the last commit
+draws it."""
 
 import re
 import subprocess
@@ -31,11 +32,11 @@ class Turn:
 
 
 def waits(crate, edit, turn):
-    """Whether an edit waits for another turn. Where there is no turn, none does."""
-    name = f"{crate.name}/{edit.name}"
-    if turn is None or edit.is_always_tried or edit.is_harmless or name in turn.edits or turn.has_changed(crate):
+    """Whether an edit waits for another turn. Where there is no turn, none does. Those of a function, which have much in common, have
+    one turn."""
+    if turn is None or edit.is_always_tried or edit.is_harmless or zlib.crc32(min(edit.functions).encode()) % TURNS == turn.number:
         return False
-    return zlib.crc32(name.encode()) % TURNS != turn.number
+    return f"{crate.name}/{edit.name}" not in turn.edits and not turn.has_changed(crate)
 
 
 # ---- what git tells

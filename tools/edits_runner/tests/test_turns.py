@@ -12,11 +12,10 @@ from .made_up import Crate, InAFolder
 
 class Turns(InAFolder):
     def lay_own(self, count, more=""):
-        """A crate `own` with so many edits of a public function, over a crate `low`."""
-        lines = "".join(f"    let sum = one + {at};\n" for at in range(count))
-        self.lay("own/src/lib.rt", f"pub fn add(one: u64) {{\n{lines}}}\n")
+        """A crate `own` with so many public functions and an edit of each, over a crate `low`."""
+        self.lay("own/src/lib.rt", "".join(f"pub fn add_{at}(one: u64) {{\n    one + {at};\n}}\n\n" for at in range(count)))
         for at in range(count):
-            self.lay(f"own/edits/a_sum_of_{at}.edit", f"{more}of: add\nfile: src/lib.rt\nold: one + {at};\nnew: one;\n")
+            self.lay(f"own/edits/a_sum_of_{at}.edit", f"{more}of: add_{at}\nfile: src/lib.rt\nold: one + {at};\nnew: one;\n")
         lowest = Crate("lowest", f"{self.room}/lowest")
         low = Crate("low", f"{self.room}/low", deps=[lowest])
         return Crate("own", f"{self.room}/own", deps=[low])
@@ -33,6 +32,13 @@ class Turns(InAFolder):
         counts = [sum(f"a_sum_of_{at}.edit" in it for it in waiting) for at in range(30)]
         self.assertEqual(counts, [TURNS - 1] * 30)
         self.assertTrue(all(0 < len(it) < 30 for it in waiting))
+
+    def test_edits_of_a_function_have_one_turn(self):
+        own = self.lay_own(9)
+        for at in range(9):
+            self.lay(f"own/edits/b_sum_of_{at}.edit", f"of: add_{at}\nfile: src/lib.rt\nold: one + {at};\nnew: {at};\n")
+        for names in self.waiting(own):
+            self.assertEqual([f"b{it[1:]}" for it in names if it[0] == "a"], [it for it in names if it[0] == "b"])
 
     def test_none_waits_where_its_crate_or_one_below_has_changed(self):
         own = self.lay_own(9)
@@ -55,7 +61,7 @@ class Turns(InAFolder):
 
     def test_what_moved_is_bad_in_every_turn(self):
         own = self.lay_own(9)
-        self.lay("own/src/lib.rt", "pub fn add(one: u64) {\n    one;\n}\n")
+        self.lay("own/src/lib.rt", "pub fn add_0(one: u64) {\n    one;\n}\n")
         for number in range(TURNS):
             now, left, bad = edits_now(own, [], Turn(number))
             self.assertEqual((now, left, len(bad)), ([], 0, 9))
