@@ -17,8 +17,8 @@ pub desk-done : {R W E : Type 0} (known : Known) (remaining : R → Option (List
     → asked ≡ Ok request → request ≡ Desk workers named → named ≡ Some folder → before ≡ unopened → bytes ≡ string_bytes folder
     → DeskEnds before opened known bytes remaining contents heard input read output written errors told end → IsDoneAs known remaining contents heard input read output written errors told asked end
 desk-done known remaining contents heard input read output written errors told asked request workers named folder before opened bytes end is-asked is-desk is-named is-unopened is-bytes ends =
-    subst (λ (a : Result Request NoRequest). IsDoneAs known remaining contents heard input read output written errors told a end) (sym (is-asked ∙ ap Ok (is-desk ∙ ap (Desk workers) is-named))) (record {
-      opened = opened;
-      ends = subst (λ (o : Opening). DeskEnds o opened known (string_bytes folder) remaining contents heard input read output written errors told end) is-unopened
-          (subst (λ (b : List ℕ). DeskEnds before opened known b remaining contents heard input read output written errors told end) is-bytes ends)
-    })
+    subst (λ (a : Result Request NoRequest). IsDoneAs known remaining contents heard input read output written errors told a end) (sym (is-asked ∙ ap Ok (is-desk ∙ ap (Desk workers) is-named))) (
+      opened,
+      subst (λ (o : Opening). DeskEnds o opened known (string_bytes folder) remaining contents heard input read output written errors told end) is-unopened
+          (subst (λ (b : List ℕ). DeskEnds before opened known b remaining contents heard input read output written errors told end) is-bytes ends),
+    )

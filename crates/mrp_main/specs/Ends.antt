@@ -146,17 +146,11 @@ Ends known remaining contents input read output written (Err (none.Help text)) e
 Ends known remaining contents input read output written (Err (none.Usage text)) end = (read ≡ input) × (written ≡ output) × (end ≡ Usage text)
 Ends known remaining contents input read output written (Err none.NoMemory) end = (read ≡ input) × (written ≡ output) × (end ≡ NoMemory)
 
--- an order desk on a folder is done: it ended in one of its ways
-pub record IsDeskDone {R W E : Type 0} (known : Known) (folder : List ℕ) (remaining : R → Option (List ℕ)) (contents : W → Option (List ℕ)) (heard : E → Option (List ℕ))
-    (input read : Told R) (output written : Told W) (errors told : Told E) (end : Ending) : Type 0 where
-  pub opened : Opening
-  pub ends : DeskEnds unopened opened known folder remaining contents heard input read output written errors told end
-
 -- how a command is done, by what its words ask for: an order desk on a folder ends as it says, and all else as above, and
 -- then its end and nothing else is told
 abbrev pub IsDoneAs : Known → {R W E : Type 0} → (R → Option (List ℕ)) → (W → Option (List ℕ)) → (E → Option (List ℕ)) → Told R → Told R → Told W → Told W → Told E → Told E → Result Request NoRequest → Ending → Type 0
 IsDoneAs known remaining contents heard input read output written errors told (Ok (Desk workers (Some folder))) end =
-    IsDeskDone known (string_bytes folder) remaining contents heard input read output written errors told end
+    (opened : Opening) × DeskEnds unopened opened known (string_bytes folder) remaining contents heard input read output written errors told end
 IsDoneAs known remaining contents heard input read output written errors told asked end =
     Ends known remaining contents input read output written asked end × IsTold heard errors told (words_of end)
 
