@@ -1,7 +1,7 @@
 //! The check of a day against a folder, with an input, an output and an error stream.
 
 use super::audits::{DAY, EXCHANGED, SCRIPT, text_of};
-use super::commands::{Left, Streams, has_ended, left_by, words_leave};
+use super::commands::{Left, Streams, has_ended, left_by};
 use super::made;
 use super::texts::{LOTS_HISTORY, LOTS_REPORT, WELD_LOADS};
 use sample_shops::bicycles_welded;
@@ -155,6 +155,8 @@ fn a_line_more_and_entries_exchanged_are_said(rt: HostRuntime) {
 #[test]
 fn a_folder_that_is_missing_is_refused(rt: HostRuntime) {
     let words = ["check", "--dir", "nowhere"];
+    let left = left_by(&rt, rt.alloc(), &words, Streams::of(LOTS_HISTORY));
     let refused = "refused: 4 missing-section calendar 0\n";
-    words_leave(&rt, &words, Streams::of(LOTS_HISTORY), 1, "", refused);
+    has_ended(&rt, &left, 1, "", refused);
+    drop(left);
 }

@@ -111,23 +111,6 @@ pub fn has_ended(rt: &impl Abort, left: &Left, status: u8, output: &str, errors:
     same(rt, left.errors.as_str(), errors);
 }
 
-// Fails unless these words leave this status, this output and these errors.
-pub fn words_leave<R: AllocGlobal + Abort + Eprint + Files<File = File> + Threads + Wait + Sync>(
-    rt: &R,
-    words: &[&str],
-    streams: Streams<'_>,
-    status: u8,
-    output: &str,
-    errors: &str,
-)
-where
-    R::Dir: Send,
-{
-    let left = left_by(rt, rt.alloc(), words, streams);
-    has_ended(rt, &left, status, output, errors);
-    drop(left);
-}
-
 #[test]
 fn bundles_are_planned_by_1_to_64_workers(rt: HostRuntime) {
     const WORDS: [&[&str]; 7] = [
@@ -332,7 +315,9 @@ fn help_is_written_to_the_output(rt: HostRuntime) {
 fn the_version_is_written_to_the_output(rt: HostRuntime) {
     const TOLD: &str = "mrp 0.1.0 (proved with rattle-kit-13f)\n";
     for word in ["--version", "-V"] {
-        words_leave(&rt, &[word], Streams::of(""), 0, TOLD, "");
+        let left = left_by(&rt, rt.alloc(), &[word], Streams::of(""));
+        has_ended(&rt, &left, 0, TOLD, "");
+        drop(left);
     }
 }
 
@@ -388,7 +373,9 @@ fn folders_that_can_not_be_read_are_told(rt: HostRuntime) {
     made(&rt, make_folders(&rt));
     for (folder, status, errors) in ENDS {
         let words = ["plan", "--dir", folder];
-        words_leave(&rt, &words, Streams::of("no bundle"), status, "", errors);
+        let left = left_by(&rt, rt.alloc(), &words, Streams::of("no bundle"));
+        has_ended(&rt, &left, status, "", errors);
+        drop(left);
     }
 }
 
@@ -400,13 +387,17 @@ fn a_check_reads_no_folder_that_a_plan_does_not(rt: HostRuntime) {
         "out/shut", "out/loop", TOO_LONG, "out/long", "out/both", "out/full",
     ] {
         let words = ["check", "--dir", folder];
-        words_leave(&rt, &words, Streams::of("no day"), 4, "", "read failed\n");
+        let left = left_by(&rt, rt.alloc(), &words, Streams::of("no day"));
+        has_ended(&rt, &left, 4, "", "read failed\n");
+        drop(left);
     }
 }
 
 #[test]
 fn a_live_day_of_a_folder_leaves_the_input_too(rt: HostRuntime) {
     let words = ["live", "--dir", "nowhere"];
+    let left = left_by(&rt, rt.alloc(), &words, Streams::of("no bundle"));
     let refused = "refused: 4 missing-section calendar 0\n";
-    words_leave(&rt, &words, Streams::of("no bundle"), 1, "", refused);
+    has_ended(&rt, &left, 1, "", refused);
+    drop(left);
 }

@@ -2,7 +2,7 @@
 //! common.
 
 use super::audits::SCRIPT;
-use super::commands::{Left, Streams, has_ended, left_by, words_leave};
+use super::commands::{Left, Streams, has_ended, left_by};
 use super::{made, same};
 use mrp_audit::check;
 use mrp_engine::{Day, DayFault, answer_by_desks};
@@ -165,15 +165,9 @@ fn nothing_is_written_where_a_run_of_a_live_day_gets_too_large(rt: HostRuntime) 
         ..tower()
     };
     let bundle = made(&rt, shop.bundle(rt.alloc()));
-    words_leave(
-        &rt,
-        &["live"],
-        Streams::of(&bundle),
-        1,
-        "",
-        "too large: B\n",
-    );
-    drop(bundle);
+    let left = left_by(&rt, rt.alloc(), &["live"], Streams::of(&bundle));
+    has_ended(&rt, &left, 1, "", "too large: B\n");
+    drop((left, bundle));
 }
 
 // The calls of two desks taking turns.

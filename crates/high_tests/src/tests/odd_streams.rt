@@ -2,7 +2,7 @@
 
 use super::audits::SCRIPT;
 use super::checks::{CHECK, make_folder};
-use super::commands::{Left, Streams, has_ended, left_by, output_of, words_leave};
+use super::commands::{Left, Streams, has_ended, left_by, output_of};
 use super::streams::{ALL, FAILS, acts};
 use super::{made, same};
 use mrp_rows::devices::{Act, Stretch, one_else};
@@ -124,6 +124,7 @@ const TAKEN: usize = 50;
 // Fails unless these words say so of each read that fails, the one at the input's end too.
 fn reads_are_told<R: AllocGlobal + Abort + Eprint + Files<File = File> + Threads + Wait + Sync>(
     rt: &R,
+    alloc: Global,
     case: Case<'_>,
 )
 where
@@ -136,7 +137,9 @@ where
             reads: acts(&stretches, usual),
             ..Streams::of(case.input)
         };
-        words_leave(rt, case.words, streams, 4, "", "read failed\n");
+        let left = left_by(rt, alloc, case.words, streams);
+        has_ended(rt, &left, 4, "", "read failed\n");
+        drop(left);
     }
 }
 
@@ -144,7 +147,7 @@ where
 fn each_read_that_fails_is_told(rt: HostRuntime) {
     let texts = made_texts(&rt, rt.alloc());
     for case in texts.readers() {
-        reads_are_told(&rt, case);
+        reads_are_told(&rt, rt.alloc(), case);
     }
     drop(texts);
 }
@@ -206,6 +209,7 @@ const SHORT: &[Stretch] = &[Stretch(1, Act::Moves(7)), Stretch(1, Act::Interrupt
 // Fails unless these words go on after short and interrupted reads and after such writes.
 fn go_on_after<R: AllocGlobal + Abort + Eprint + Files<File = File> + Threads + Wait + Sync>(
     rt: &R,
+    alloc: Global,
     case: Case<'_>,
     stretches: &[Stretch],
     after: Act,
@@ -218,16 +222,18 @@ where
         writes: acts(stretches, after),
         ..Streams::of(case.input)
     };
-    words_leave(rt, case.words, streams, 0, case.output, "");
+    let left = left_by(rt, alloc, case.words, streams);
+    has_ended(rt, &left, 0, case.output, "");
+    drop(left);
 }
 
 #[test]
 fn one_byte_a_call_is_gone_on_with(rt: HostRuntime) {
     let texts = made_texts(&rt, rt.alloc());
     for case in texts.readers() {
-        go_on_after(&rt, case, SHORT, Act::Moves(1));
+        go_on_after(&rt, rt.alloc(), case, SHORT, Act::Moves(1));
     }
-    go_on_after(&rt, texts.carry(), SHORT, Act::Moves(1));
+    go_on_after(&rt, rt.alloc(), texts.carry(), SHORT, Act::Moves(1));
     drop(texts);
 }
 
@@ -248,6 +254,7 @@ const IMPATIENT: &[Stretch] = &[
 // Fails unless these words give up a writer that is interrupted once more.
 fn give_up<R: AllocGlobal + Abort + Eprint + Files<File = File> + Threads + Wait + Sync>(
     rt: &R,
+    alloc: Global,
     case: Case<'_>,
 )
 where
@@ -257,18 +264,20 @@ where
         writes: acts(IMPATIENT, ALL),
         ..Streams::of(case.input)
     };
+    let left = left_by(rt, alloc, case.words, streams);
     let front = case.output.get(..1).unwrap_or("no front");
-    words_leave(rt, case.words, streams, 4, front, "write failed\n");
+    has_ended(rt, &left, 4, front, "write failed\n");
+    drop(left);
 }
 
 #[test]
 fn a_million_interrupted_writes_are_tried_again(rt: HostRuntime) {
     let texts = made_texts(&rt, rt.alloc());
     for case in texts.readers() {
-        go_on_after(&rt, case, PATIENT, ALL);
-        give_up(&rt, case);
+        go_on_after(&rt, rt.alloc(), case, PATIENT, ALL);
+        give_up(&rt, rt.alloc(), case);
     }
-    go_on_after(&rt, texts.carry(), PATIENT, ALL);
-    give_up(&rt, texts.carry());
+    go_on_after(&rt, rt.alloc(), texts.carry(), PATIENT, ALL);
+    give_up(&rt, rt.alloc(), texts.carry());
     drop(texts);
 }

@@ -2,11 +2,9 @@
 
 use super::audits::{DAY, SCRIPT, text_of};
 use super::checks::make_shop;
-use super::commands::{Streams, words_leave};
-use super::streams::{ALL, FAILS, acts};
+use super::commands::{Streams, has_ended, left_by};
 use super::texts::{LOTS_HISTORY, LOTS_REPORT, WELD_LOADS};
 use super::{made, same};
-use mrp_rows::devices::{Act, Stretch};
 use std::fs;
 use std::fs::File;
 use std::io::Write;
@@ -44,73 +42,61 @@ fn text_at(rt: &(impl AllocGlobal + Files), path: &str) -> Result<String, Fail> 
 fn an_order_desk_keeps_what_it_answers(rt: HostRuntime) {
     let alloc = rt.alloc();
     made(&rt, make_unopened(&rt, "out/desk"));
-    let rows = LOTS_HISTORY.strip_prefix(HEADER).expect(&rt, "rows");
-    words_leave(&rt, DESK, Streams::of(SCRIPT), 0, rows, "");
+    let day = left_by(&rt, alloc, DESK, Streams::of(SCRIPT));
+    let rows = LOTS_HISTORY.strip_prefix(HEADER);
+    has_ended(&rt, &day, 0, rows.expect(&rt, "rows"), "");
+    drop(day);
     let run = made(&rt, text_at(&rt, "out/desk/run-7.day"));
     let pieces = [HEADER, "7,1,run,,,,,front,7\n", LOTS_REPORT, WELD_LOADS];
     let made_of = text_of(&rt, alloc, &pieces);
     same(&rt, run.as_str(), made_of.as_str());
     drop((run, made_of));
+    let planned = left_by(&rt, alloc, PLAN, Streams::of(""));
     let whole = text_of(&rt, alloc, DAY);
-    words_leave(&rt, PLAN, Streams::of(""), 0, &whole, "");
-    drop(whole);
+    has_ended(&rt, &planned, 0, &whole, "");
+    drop((planned, whole));
 }
 
 #[test]
 fn half_a_line_and_other_tables_are_told(rt: HostRuntime) {
     const WORDS: &[&str] = &["desk", "--dir", "out/cut"];
+    const BOOKED: &str = "1,1,book,BIKE,3,12,,booked,1\n";
     const SECOND: &str = "2,1,book,BIKE,5,25,,booked,2\nrefused: 6 columns script 3\n";
+    let alloc = rt.alloc();
     made(&rt, make_unopened(&rt, "out/cut"));
-    let first = Streams::of("1,book,BIKE,2025-01-20,12,\n");
-    words_leave(&rt, WORDS, first, 0, "1,1,book,BIKE,3,12,,booked,1\n", "");
+    let first = left_by(
+        &rt,
+        alloc,
+        WORDS,
+        Streams::of("1,book,BIKE,2025-01-20,12,\n"),
+    );
+    has_ended(&rt, &first, 0, BOOKED, "");
+    drop(first);
     made(&rt, append(&rt, "out/cut/script.csv", "1,run"));
-    let cut = Streams::of("1,book,BIKE,2025-02-03,25,\n1,run");
-    words_leave(&rt, WORDS, cut, 0, SECOND, "cut: script 2\n");
+    let cut = left_by(
+        &rt,
+        alloc,
+        WORDS,
+        Streams::of("1,book,BIKE,2025-02-03,25,\n1,run"),
+    );
+    has_ended(&rt, &cut, 0, SECOND, "cut: script 2\n");
+    drop(cut);
     made(&rt, append(&rt, "out/cut/stock.csv", "\n"));
-    let changed = Streams::of("1,run,,,,\n");
-    words_leave(&rt, WORDS, changed, 1, "", "tables changed\n");
-}
-
-// What streams do first: they move a line of 27 bytes, they move 5 bytes, or they move 7 between interruptions.
-const LINE: &[Stretch] = &[Stretch(1, Act::Moves(27))];
-
-const FRONT: &[Stretch] = &[Stretch(1, Act::Moves(5))];
-
-const SLOW: &[Stretch] = &[
-    Stretch(1, Act::Interrupts),
-    Stretch(1, Act::Moves(7)),
-    Stretch(1, Act::Interrupts),
-];
-
-// A read fails behind a line, then a write within an answer, and then streams are slow. Each start knows the calls of
-// those before it, also the one whose answer was cut.
-#[test]
-fn streams_that_fail_end_an_order_desk(rt: HostRuntime) {
-    const WORDS: &[&str] = &["desk", "--dir", "out/failing"];
-    const CANCELS: &str = "3,1,cancel,,,,1,cancelled,\n4,1,cancel,,,,1,not-standing,\n";
-    made(&rt, make_unopened(&rt, "out/failing"));
-    let unread = Streams {
-        reads: acts(LINE, FAILS),
-        ..Streams::of("1,book,BIKE,2025-01-20,12,\n1,run,,,,\n")
-    };
-    let booked = "1,1,book,BIKE,3,12,,booked,1\n";
-    words_leave(&rt, WORDS, unread, 4, booked, "read failed\n");
-    let untold = Streams {
-        writes: acts(FRONT, FAILS),
-        ..Streams::of("1,ask,BIKE,2025-01-20,,\n")
-    };
-    words_leave(&rt, WORDS, untold, 4, "2,1,a", "write failed\n");
-    let slow = Streams {
-        reads: acts(SLOW, Act::Moves(1)),
-        writes: acts(SLOW, ALL),
-        ..Streams::of("1,cancel,,,,1\n1,cancel,,,,1\n")
-    };
-    words_leave(&rt, WORDS, slow, 0, CANCELS, "");
+    let changed = left_by(&rt, alloc, WORDS, Streams::of("1,run,,,,\n"));
+    has_ended(&rt, &changed, 1, "", "tables changed\n");
+    drop(changed);
 }
 
 #[test]
 fn an_order_desk_that_does_not_open_is_told(rt: HostRuntime) {
-    let words = ["desk", "--dir", "nowhere"];
-    let refused = "refused: 4 missing-section calendar 0\n";
-    words_leave(&rt, &words, Streams::of(SCRIPT), 1, "", refused);
+    const ENDS: [(&[&str], u8, &str); 1] = [(
+        &["desk", "--dir", "nowhere"],
+        1,
+        "refused: 4 missing-section calendar 0\n",
+    )];
+    for (words, status, errors) in ENDS {
+        let left = left_by(&rt, rt.alloc(), words, Streams::of(SCRIPT));
+        has_ended(&rt, &left, status, "", errors);
+        drop(left);
+    }
 }

@@ -1,7 +1,7 @@
 //! The page of a day, with an input, an output and an error stream.
 
 use super::checks::make_folder;
-use super::commands::{Left, Streams, left_by, output_of, words_leave};
+use super::commands::{Left, Streams, has_ended, left_by, output_of};
 use super::{made, same};
 use sample_shops::bicycles;
 use std::alloc::Global;
@@ -89,8 +89,9 @@ fn a_page_is_refused_with_nothing_written(rt: HostRuntime) {
 #[test]
 fn a_run_that_a_day_does_not_have_is_told(rt: HostRuntime) {
     let text = day(&rt, rt.alloc());
-    let words = ["page", "--run", "2"];
-    words_leave(&rt, &words, Streams::of(&text), 2, "", "no such run\n");
+    let left = left_by(&rt, rt.alloc(), &["page", "--run", "2"], Streams::of(&text));
+    has_ended(&rt, &left, 2, "", "no such run\n");
+    drop(left);
     drop(text);
 }
 
@@ -120,10 +121,14 @@ fn tables_of_another_day_are_refused(rt: HostRuntime) {
     made(&rt, make_folder(&rt));
     let text = long_day(&rt, rt.alloc(), 4);
     let words = ["page", "--dir", "out/lots"];
-    words_leave(&rt, &words, Streams::of(&text), 1, "", "wrong: tables\n");
+    let left = left_by(&rt, rt.alloc(), &words, Streams::of(&text));
+    has_ended(&rt, &left, 1, "", "wrong: tables\n");
+    drop(left);
     let words = ["page", "--dir", "nowhere"];
+    let left = left_by(&rt, rt.alloc(), &words, Streams::of(&text));
     let refused = "refused: 4 missing-section calendar 0\n";
-    words_leave(&rt, &words, Streams::of(&text), 1, "", refused);
+    has_ended(&rt, &left, 1, "", refused);
+    drop(left);
     drop(text);
 }
 
