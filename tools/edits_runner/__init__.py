@@ -8,6 +8,7 @@
   tools/edits --as-proved ..     reads the names of crates from standard input, a line each, once they and those below them
                                  are proved and built, and tries their edits once enough have come for a check, at the latest
                                  at the input's end; those of crates that are not named by then fail
+  tools/edits --in-turn ..       tries a part of the edits whose verdict the landing before has told, as the gate does (below)
   tools/edits --unspoiled ..     tries the copies without their edits, each of which has to be proved
   tools/edits --read ..          tries nothing: says within seconds which edits are bad, as one whose text has moved
   tools/edits --save FOLDER ..   keeps what each check said, and how long each function took, in a folder that is there
@@ -23,7 +24,7 @@ What an edit is
         new: TEXT                        what stands there instead
     Further pairs apply to what the earlier ones made, and further lines `of:` name further functions. It lies in the bodies
     of the functions that it names: no contract, type, constant, definition or proof is edited, since others stand on those.
-    A line `harmless: WHY` makes it a control.
+    A line `harmless: WHY` makes it a control, a line `always: WHY` has it tried in every turn.
 
 When an edit counts as refused
     One of the functions that it names is not proved for a reason of its own: the prover lists a goal of that function
@@ -75,8 +76,9 @@ Crates together
     A crate without other bodies is handed over as a library in source, a program without its `main`; the crate that is
     checked is an empty one above it. What is shown of a function is the same, but the prover suggests no text for goals that
     stay open: it does that only for the crate that it checks. So one check tries the edits of several crates, and loads once
-    what stands below them. Where the part of one is not believed, none is, and each crate is tried in a check of its own.
-    Crates go together only where all of them are known to be proved: by hand, those that have a library.
+    what stands below them, and a further one what is left of several. Where the part of one is not believed, none is, and each
+    half of the crates is tried so. Crates go together only where all of them are known to be proved: by hand, those that have
+    a library.
 
 When such a check, a round, is believed
       - no two edits in place name one function, and their order makes no difference to the text;
@@ -88,6 +90,17 @@ When such a check, a round, is believed
     bodies and this one edit in its place. Only that may say 'not refused'.
     The rounds in the crate as it stands share what they proved, in a folder of this run: what the proofs cite is proved in
     the first and taken in the others. The prover keeps no refusal, and takes what it kept only where that is up to date.
+
+Turns
+    With --in-turn an edit may wait where its verdict has to be that of the landing before: since then neither it nor its
+    crate nor any below has changed (all their files but edits, and their lines in crates.txt), nor has the toolchain's
+    version. Of these a run tries the edits of a third of the functions, which the digest of the last commit's tree draws.
+    Controls and edits with a line `always:` never wait. An edit whose text has moved is bad in every turn.
+    The landing before is the commit that tools/landed names. Whoever begins a change writes there the commit that landed
+    last; an older one makes more count as changed, and nothing worse. Where git does not tell of that commit, as in a history
+    cut short, or where the last one does not stand on it, nothing waits.
+    A change of the runner makes nothing count as changed: what is tried is a trial of it. Whoever changes what it believes
+    tries all once, without --in-turn.
 
 What an edit is a change of
     A refusal says something only where the function is proved as it stands. In the gate `rt ci` has said so before, and by
@@ -112,8 +125,8 @@ failed.
 Where the toolchain is another than the one that the runner knows, it says so at once and ends with status 2, since it reads
 the prover's words and takes the toolchain's own script as a module (toolchain.py).
 
-The modules, from the bottom up: `toolchain`; `bodies` (functions, as the layout tells them), `edit_files`, `copies`, `rounds`
-(what one check tries), `verdicts` (what a check says), `checks` (how it is run), `judging` (what is believed of it), `trial`
-(a crate's edits), `together` (those of several crates), `report`, `command`. Their tests are in `tests`; no prover has a part in
-them: `python3 -B -m unittest discover` in tools.
+The modules, from the bottom up: `toolchain`; `bodies` (functions, as the layout tells them), `edit_files`, `turns` (which edits
+wait), `copies`, `rounds` (what one check tries), `verdicts` (what a check says), `checks` (how it is run), `judging` (what is
+believed of it), `trial` (a crate's edits), `together` (those of several crates), `report`, `command`. Their tests are in `tests`;
+no prover has a part in them: `python3 -B -m unittest discover` in tools.
 """

@@ -12,6 +12,7 @@ from .checks import CHECKS
 from .edit_files import edits_of, files_of_edits
 from .report import Report
 from .together import Waiting, try_together
+from .turns import TURNS, NoTurn, turn_at
 
 TOP = os.path.dirname(os.path.dirname(os.path.dirname(os.path.realpath(__file__))))
 
@@ -25,6 +26,7 @@ def words_given(words):
     known.add_argument("--lanes", type=int, help=argparse.SUPPRESS)
     known.add_argument("--jobs", type=int, help=argparse.SUPPRESS)
     known.add_argument("--as-proved", action="store_true", help=argparse.SUPPRESS)
+    known.add_argument("--in-turn", action="store_true", help=argparse.SUPPRESS)
     known.add_argument("--save", help=argparse.SUPPRESS)
     known.add_argument("--unspoiled", action="store_true", help=argparse.SUPPRESS)
     known.add_argument("--read", action="store_true", help=argparse.SUPPRESS)
@@ -71,9 +73,21 @@ def read(crates, words):
     return 1 if bad or not good else 0
 
 
+def turn_told(top):
+    """The turn in which edits are tried, or None where none may wait; it is said which, or why."""
+    try:
+        turn = turn_at(top, toolchain.version())
+    except NoTurn as why:
+        print(f"no edit waits for another turn: {why}", flush=True)
+        return None
+    what = f"since {turn.landed[:8]} landed, {len(turn.changed)} crates have changed"
+    print(f"turn {turn.number + 1} of {TURNS}; {what}", flush=True)
+    return turn
+
+
 def run(crates, given):
     """Tries the edits of these crates, and returns the exit status."""
-    report, building, waiting = Report(), threading.Lock(), Waiting(given.words)
+    report, building, waiting = Report(), threading.Lock(), Waiting(given.words, given.turn)
 
     def lane():
         while crates_now := waiting.take():
@@ -102,6 +116,7 @@ def main(words):
         return 2
     if given.read:
         return read(crates, given.words)
+    given.turn = turn_told(TOP) if given.in_turn else None
     given.lanes = given.lanes or (processors if given.as_proved else 1)
     CHECKS.jobs, CHECKS.saved = given.jobs or (1 if given.as_proved else min(4, processors)), given.save
     return run(crates, given)

@@ -19,12 +19,14 @@ class Goal:
 @dataclass(eq=False)
 class Edit:
     """An edit: the functions whose contracts refuse it, by their paths with the crate's name in front; its changes, each a file,
-    the text that stands there once, and the text that replaces it; the goal that refuses it, where it names one."""
+    the text that stands there once, and the text that replaces it; the goal that refuses it, where it names one. A control is
+    harmless. One that is always tried waits for no turn (turns.py)."""
 
     name: str
     functions: frozenset = frozenset()
     pairs: list = field(default_factory=list)
     is_harmless: bool = False
+    is_always_tried: bool = False
     goal: Goal | None = None
 
 
@@ -55,6 +57,8 @@ def parse_edit(name, text, crate):
             old = None
         elif word == "harmless" and rest:
             edit.is_harmless = True
+        elif word == "always" and rest:
+            edit.is_always_tried = True
         elif word == "goal" and rest and not edit.goal:
             goal, _, binds = rest.strip().partition(" ")
             edit.goal = Goal(goal, binds)

@@ -10,7 +10,7 @@ class Report:
 
     def __init__(self):
         self.printing, self.began = threading.Lock(), time.time()
-        self.passed, self.failures, self.failed, self.controls = 0, [], 0, 0
+        self.passed, self.failures, self.failed, self.controls, self.left = 0, [], 0, 0, 0
 
     def say(self, line):
         with self.printing:
@@ -25,6 +25,11 @@ class Report:
             self.failed += not is_well
             self.failures.extend([line] * (not is_well))
 
+    def leave(self, count):
+        """Takes so many edits as waiting for other turns."""
+        with self.printing:
+            self.left += count
+
     def fail_all(self, crate, count, why):
         """Takes so many edits of a crate as failed, since they cannot be tried."""
         line = f"{crate.name}: {why}, so {count} edits were not tried"
@@ -35,12 +40,15 @@ class Report:
                 self.failures.append(line)
 
     def close(self, files):
-        """Says what failed, and how many did; where there are files, each has to be among what was tried, and some controls."""
+        """Says what failed, and how many did; where there are files, each has to be among what was tried or waits, and some
+        controls among the former."""
         tried = self.passed + self.failed
-        if files and (tried != len(files) or not self.controls):
+        if self.left:
+            print(f"{self.left} edits wait for another turn")
+        if files and (tried + self.left != len(files) or not self.controls):
             self.failed += 1
             print(f"{len(files)} edits stand in the crates' folders, {tried} were tried, {self.controls} of them controls")
-        if not tried:
+        if not tried + self.left:
             self.failed += 1
             print("no edit was tried")
         used = resource.getrusage(resource.RUSAGE_CHILDREN)

@@ -5,9 +5,18 @@ import threading
 from .edit_files import edits_of
 from .judging import judge_rounds
 from .trial import Trial
+from .turns import waits
 
 # So many edits are worth a check, and crates with fewer wait for others; so many are the most, unless one crate has more.
-TOGETHER, MOST_TOGETHER = 40, 80
+TOGETHER, MOST_TOGETHER = 50, 100
+
+
+def edits_now(crate, words, turn):
+    """The edits of a crate whose names have one of these words, or all without words: those that are tried in this turn, how
+    many wait for others, and (name, why) of each that is bad."""
+    good, bad = edits_of(crate, words)
+    now = [edit for edit in good if not waits(crate, edit, turn)]
+    return now, len(good) - len(now), bad
 
 
 def go_together(crates):
@@ -20,12 +29,15 @@ def go_together(crates):
 class Waiting:
     """Crates whose edits wait, in the order in which they came."""
 
-    def __init__(self, words):
-        self.crates, self.has_ended, self.words, self.changed = [], False, words, threading.Condition()
+    def __init__(self, words, turn=None):
+        self.crates, self.has_ended, self.changed = [], False, threading.Condition()
+        self.words, self.turn, self.counts = words, turn, {}
 
     def add(self, crate):
+        now, _, _ = edits_now(crate, self.words, self.turn)
         with self.changed:
             self.crates.append(crate)
+            self.counts[crate] = len(now)
             self.changed.notify_all()
 
     def end(self):
@@ -45,7 +57,7 @@ class Waiting:
         """Those from the first on that go together, until they have enough edits; none while there may come more."""
         found, edits = [], 0
         for crate in self.crates:
-            more = len(edits_of(crate, self.words)[0])
+            more = self.counts[crate]
             if not found or edits + more <= MOST_TOGETHER and go_together([*found, crate]):
                 found.append(crate)
                 edits += more
@@ -58,7 +70,8 @@ class Waiting:
 
 def trial_of(crate, given, report, building):
     """A trial of the crate's edits, once what stands below it is built, or None where there is nothing to try."""
-    edits, bad = edits_of(crate, given.words)
+    edits, left, bad = edits_now(crate, given.words, given.turn)
+    report.leave(left)
     for name, why in bad:
         report.end(crate, name, False, f"BAD EDIT: {why}")
     if not edits:
@@ -74,16 +87,37 @@ def trial_of(crate, given, report, building):
     return Trial(crate, edits, is_proved, lambda text: report.say(f"{crate.name}: {text}"), not given.unspoiled)
 
 
-def open_together(trials):
-    """Tries the first rounds of these crates in one check."""
+def judge_openings(trials):
+    """The next rounds of these crates and what one check of them told, each with its trial; none where it is not believed."""
     rounds = {trial.crate: trial.opening() for trial in trials}
     judged = judge_rounds(rounds)
     for trial in trials:
         told, why = judged[trial.crate]
         if told:
-            trial.opened = rounds[trial.crate], told, why
+            yield trial, rounds[trial.crate], told
         else:
-            trial.say(f"its edits are tried in a check of their own: {why}")
+            trial.say(f"its edits are tried without those of {len(trials) - 1} crates next to them: {why}")
+
+
+def open_together(trials):
+    """Tries the copies of these crates as they stand in one check."""
+    for trial, tried, told in judge_openings(trials):
+        trial.opened = tried, told, None
+
+
+def run_together(trials):
+    """Tries the next rounds of these crates in one check, and so on with those of which something is left for one. Where a check is
+    not believed, each half of its crates is tried so."""
+    if len(trials) < 2 or not go_together([it.crate for it in trials]):
+        return
+    believed = [*judge_openings(trials)]
+    for trial, tried, told in believed:
+        trial.take_opened(tried, told)
+    if believed:
+        run_together([it for it in trials if it.opens()])
+    else:
+        run_together(trials[: len(trials) // 2])
+        run_together(trials[len(trials) // 2 :])
 
 
 def place_together(trials):
@@ -95,12 +129,15 @@ def place_together(trials):
 
 
 def try_together(crates, given, report, building):
-    """Tries the edits of these crates, their first rounds in one check."""
+    """Tries the edits of these crates, their rounds in one check as far as that can be."""
     trials = [trial for trial in (trial_of(crate, given, report, building) for crate in crates) if trial]
     if len(trials) > 1 and all(it.is_proved and it.edits for it in trials) and go_together([it.crate for it in trials]):
-        open_together(trials)
-        if given.unspoiled and any(it.in_place for it in trials):
-            place_together(trials)
+        if not given.unspoiled:
+            run_together(trials)
+        else:
+            open_together(trials)
+            if any(it.in_place for it in trials):
+                place_together(trials)
     for trial in trials:
         for edit, is_well, why in trial.unspoiled_ends() if given.unspoiled else trial.ends():
             report.controls += edit.is_harmless

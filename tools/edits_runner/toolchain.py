@@ -11,12 +11,18 @@ import functools
 import importlib.machinery
 import importlib.util
 import os
+import re
 import shutil
 import subprocess
 import threading
 
 # The first word of what `rt version` prints, of each toolchain that the runner was tried with.
 KNOWN = ("rattle-kit-13b", "rattle-kit-13f")
+
+
+# Where the program's version names the toolchain that proves it.
+NAMING = "crates/mrp_words/src/command.rt"
+NAMED = re.compile(r'const VERSION: &str = "[\d.]+ \(proved with (\S+)\)";')
 
 
 class OtherToolchain(Exception):
@@ -30,6 +36,17 @@ def identity():
     except (OSError, subprocess.CalledProcessError) as error:
         raise OtherToolchain(f"`rt version` says nothing: {error}") from error
     return ran.stdout.strip()
+
+
+def version():
+    """The name of the toolchain, the first word of that."""
+    return identity().partition(" ")[0]
+
+
+def named_by(text):
+    """The toolchain that the program's version names, which stands in this text, or None."""
+    named = NAMED.search(text)
+    return named[1] if named else None
 
 
 def require_known(found):

@@ -24,11 +24,13 @@ class Trial:
         self.whole = set()
         copies = {edit: copies_of(crate, edit, number, is_spoiled) for number, edit in enumerate(edits)}
         self.copies = {edit: made for edit, made in copies.items() if made}
-        # The first round, and what a check of several crates told of it; of copies next to edits in place, what one told.
+        # The next round, and what a check of several crates told of it; of copies next to edits in place, what one told.
         self.opened, self.placed = None, None
         self.in_place = [edit for edit in edits if edit not in self.copies]
         if not is_spoiled:
             self.edits = self.one_of_each_function()
+        # What is not decided: edits in no round, rounds that are tried as they are, and which of the former a round has tried.
+        self.left, self.split, self.waited = [*self.edits], [], []
 
     def one_of_each_function(self):
         """Of the edits by copies those that name a function which none before does: their copies as they stand are all."""
@@ -39,9 +41,14 @@ class Trial:
                 seen |= edit.functions
         return found
 
+    def opens(self):
+        """The edits of the next round that can be tried without other bodies and next to those of other crates."""
+        edits = [] if self.split else self.next_round(self.left, self.waited)
+        return [] if self.whole.intersection(edits) else edits
+
     def opening(self):
-        """The round with which it begins, without other bodies."""
-        return empty_round(self.crate, round_of(self.crate, self.next_round(self.edits, []), self.copies))
+        """The round of these, without other bodies."""
+        return empty_round(self.crate, round_of(self.crate, self.opens(), self.copies))
 
     def placing(self):
         """The copies as they stand next to as many edits in place as go together, without other bodies."""
@@ -50,22 +57,29 @@ class Trial:
 
     def run_rounds(self, kept):
         """Tries all edits of which there can be copies in one check, with as many of the others as go together, and then what is left."""
-        left, split, waited = [*self.edits], [], []
-        while left or split:
-            edits = split.pop() if split else self.next_round(left, waited)
-            if not edits:
-                continue
-            left = [edit for edit in left if edit not in edits]
-            (tried, told, why), self.opened = self.opened or self.judge(edits, kept), None
-            if told is None:
-                split += self.parted(edits, tried, why)
-                continue
-            later = self.take(tried, told)
-            self.say(f"{len(edits) - len(later)} edits of {len(edits)} are decided, {len(left) + len(later)} left")
-            if len(later) < len(edits):
-                left, waited = left + later, waited + later
-            else:
-                split += [[edit] for edit in later]
+        while self.left or self.split:
+            edits = self.split.pop() if self.split else self.next_round(self.left, self.waited)
+            if edits:
+                self.run_round(edits, kept)
+
+    def run_round(self, edits, kept):
+        """Tries these edits in a round, or takes what a check of several crates told of it."""
+        self.left = [edit for edit in self.left if edit not in edits]
+        (tried, told, why), self.opened = self.opened or self.judge(edits, kept), None
+        if told is None:
+            self.split += self.parted(edits, tried, why)
+            return
+        later = self.take(tried, told)
+        self.say(f"{len(edits) - len(later)} edits of {len(edits)} are decided, {len(self.left) + len(later)} left")
+        if len(later) < len(edits):
+            self.left, self.waited = self.left + later, self.waited + later
+        else:
+            self.split += [[edit] for edit in later]
+
+    def take_opened(self, tried, told):
+        """Takes what a check of several crates told of the next round."""
+        self.opened = tried, told, None
+        self.run_round([*tried.names], None)
 
     def parted(self, edits, tried, why):
         """The rounds in which the edits of one that is not believed are tried; what cannot be parted is tried alone."""

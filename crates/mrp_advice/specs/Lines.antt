@@ -1,5 +1,5 @@
 -- The line of each fault (profile).
-use Rattle.std.specs.Prelude.{ℕ, ◌==◌, ◌&&◌, ◌-◌, if◌then◌else◌, unwrap_or, Bool, true, false, List, [], ◌∷◌, ◌++◌, codes, decimal, length, map, Option, option_and_then}
+use Rattle.std.specs.Prelude.{ℕ, ◌==◌, ◌&&◌, ◌-◌, if◌then◌else◌, unwrap_or, Bool, true, false, List, [], ◌∷◌, ◌++◌, codes, decimal, length, map, not, slice_get, Option, Some, None, option_and_then}
 use Rattle.mrp_rows.specs.FaultText.{table_name}
 use Rattle.mrp_rows.specs.Name.{name_in}
 use Rattle.mrp_rows.specs.Tables.{table_index}
@@ -137,8 +137,22 @@ runs_of (first ∷ others) = runs_after first first others
 abbrev pub run_line : Surveyed → Run → List ℕ
 run_line survey run = fault_line survey run.0 run.1
 
+-- a line for each of these faults
+abbrev pub run_lines : Surveyed → List Told → List (List ℕ)
+run_lines survey faults = map (run_line survey) (runs_of faults)
+
 abbrev pub fault_lines : Surveyed → List (List ℕ)
-fault_lines survey = map (run_line survey) (runs_of survey.findings)
+fault_lines survey = run_lines survey survey.findings
+
+-- the next fault, if there is one, does not go on with the last
+abbrev pub is_apart : Option Told → Option Told → Bool
+is_apart (Some last) (Some next) = not (follows last next)
+is_apart (Some last) None = false
+is_apart None next = false
+
+-- there are faults and others behind them, and the first of these does not go on with the last of them
+abbrev pub are_apart : List Told → List Told → Bool
+are_apart front back = is_apart (slice_get front (length front - 1)) (slice_get back 0)
 
 -- a line for each fault, and then one for each set of items that need one another
 abbrev pub survey_lines : Surveyed → List (List ℕ)

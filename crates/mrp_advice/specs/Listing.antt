@@ -1,5 +1,5 @@
 -- Lines as one text (profile).
-use Rattle.std.specs.Prelude.{ℕ, ◌+◌, ◌==◌, if◌then◌else◌, List, [], ◌∷◌, ◌++◌, codes, length, string_bytes}
+use Rattle.std.specs.Prelude.{ℕ, ◌+◌, ◌==◌, if◌then◌else◌, List, [], ◌∷◌, ◌++◌, codes, flat_map, length, string_bytes}
 use Rattle.mrp_advice.specs.declared.listing.Listing.{Listing}
 
 -- what stands behind the first line, all lines with their ends, and how many they are
@@ -35,3 +35,11 @@ with_line l line = ended (with_words l line)
 unfoldable pub with_lines : Listed → List (List ℕ) → Listed
 with_lines l [] = l
 with_lines l (line ∷ lines) = with_lines (with_line l line) lines
+
+-- each line with its end
+abbrev pub lines_text : List (List ℕ) → List ℕ
+lines_text lines = flat_map (λ line. line ++ codes "\n") lines
+
+-- other lines behind lines
+abbrev pub with_listed : Listed → Listed → Listed
+with_listed l others = record { remark = l.remark; text = l.text ++ others.text; count = l.count + others.count }

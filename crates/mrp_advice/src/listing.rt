@@ -23,7 +23,7 @@ fn remark_after<'a>(ends: &[usize], remark: &'a str) -> &'a str
 
 impl Listing {
     ghost use Rattle.std.specs.Prelude.{◌≡◌, OnOk, string_bytes};
-    ghost use Rattle.mrp_advice.specs.Listing.{ended, listed_in, none_listed, with_line};
+    ghost use Rattle.mrp_advice.specs.Listing.{ended, listed_in, none_listed, with_line, with_listed};
 
     /// No line, with the remark for the first.
     pub fn new(alloc: Global, remark: String) -> Listing
@@ -63,6 +63,16 @@ impl Listing {
     {
         self.text.push_str(line)?;
         self.end()
+    }
+
+    // Adds other lines, which are listed without a remark.
+    pub(crate) fn append(&mut self, others: Listing) -> Result<(), AllocError>
+        ensures { OnOk result (listed_in self.new ≡ with_listed (listed_in self.old) (listed_in others)) }
+    {
+        let mut others = others;
+        self.text.push_str(&others.text)?;
+        self.ends.append(&mut others.ends)?;
+        Ok(())
     }
 
     /// The text: each line with a line feed behind it.

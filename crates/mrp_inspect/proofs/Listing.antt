@@ -1,32 +1,15 @@
 -- Listed lines as a text.
-use Rattle.std.proofs.Common.{◌≡◌, ◌∙◌, ℕ, ◌+◌, false, List, [], ◌∷◌, ◌++◌, add-zero, append-nil, append_assoc, codes, length, refl, sym, ap, arith}
+use Rattle.std.proofs.Common.{◌≡◌, ◌∙◌, ℕ, ◌+◌, false, List, [], ◌∷◌, ◌++◌, append-nil, append_assoc, codes, length, refl, sym, ap, arith}
 use Rattle.std.specs.Prelude.{◌==◌}
 use Rattle.std.proofs.lemmas.Bool.{ne_eqb}
 use Rattle.mrp_rows.specs.FaultText.{text_of_fault}
 use Rattle.mrp_rows.specs.declared.fault.Fault.{Fault}
-use Rattle.mrp_advice.specs.Listing.{Listed, none_listed, with_line, with_lines}
-use Rattle.mrp_advice.proofs.Listings.{line-first, no_lines}
-use Rattle.mrp_inspect.specs.Listed.{count_text, faults_text, first_text, lines_text, remark_text, told_text, untold}
+use Rattle.mrp_advice.specs.Listing.{Listed, lines_text, none_listed, with_lines}
+use Rattle.mrp_advice.proofs.Listings.{line-first, lines-bare, no_lines}
+use Rattle.mrp_inspect.specs.Listed.{count_text, faults_text, first_text, remark_text, told_text, untold}
 
 abbrev listed_as : List ℕ → List ℕ → ℕ → Listed
 listed_as remark text count = record { remark = remark; text = text; count = count }
-
--- a line behind the first has no remark
-line-behind : (remark text line : List ℕ) (count : ℕ) → (count == 0) ≡ false → with_line (listed_as remark text count) line ≡ listed_as remark (text ++ (line ++ codes "\n")) (count + 1)
-line-behind remark text line count some = rw some (ap (λ (t : List ℕ). listed_as remark t (count + 1)) (append_assoc text line (codes "\n")))
-
-lines-behind : (remark text : List ℕ) (count : ℕ) (lines : List (List ℕ)) → (count == 0) ≡ false → with_lines (listed_as remark text count) lines ≡ listed_as remark (text ++ lines_text lines) (count + length lines)
-lines-behind remark text count [] some =
-    no_lines (listed_as remark text count) ∙ ap (λ (t : List ℕ). listed_as remark t count) (sym (append-nil text)) ∙ ap (listed_as remark (text ++ [])) (sym (add-zero count))
-lines-behind remark text count (line ∷ lines) some =
-    let own : List ℕ = line ++ codes "\n" in
-    let more : (count + 1 == 0) ≡ false = ne_eqb (count + 1) 0 (λ e. absurd (omega (arith, e))) in
-    let long : count + 1 + length lines ≡ count + length (line ∷ lines) = omega arith in
-    line-first (listed_as remark text count) line lines
-    ∙ ap (λ (l : Listed). with_lines l lines) (line-behind remark text line count some)
-    ∙ lines-behind remark (text ++ own) (count + 1) lines more
-    ∙ ap (λ (t : List ℕ). listed_as remark t (count + 1 + length lines)) (append_assoc text own (lines_text lines))
-    ∙ ap (listed_as remark (text ++ (own ++ lines_text lines))) long
 
 remark-line : (fault : Fault) → remark_text fault ++ codes "\n" ≡ codes " (refused: " ++ (text_of_fault fault ++ codes ")\n")
 remark-line fault =
@@ -43,7 +26,7 @@ told-is (first ∷ others) fault =
     let text : List ℕ = first ++ (remark ++ codes "\n") in
     let count : ℕ = 1 + length others in
     let all : Listed = listed_as remark (text ++ lines_text others) count in
-    let listed_so : with_lines (none_listed remark) (first ∷ others) ≡ all = line-first (none_listed remark) first others ∙ lines-behind remark text 1 others refl in
+    let listed_so : with_lines (none_listed remark) (first ∷ others) ≡ all = line-first (none_listed remark) first others ∙ lines-bare remark text 1 others refl in
     let some : (count == 0) ≡ false = ne_eqb count 0 (λ e. absurd (omega (arith, e))) in
     let told : told_text all fault ≡ (text ++ lines_text others) ++ count_text count = rw some refl in
     ap (λ (l : Listed). told_text l fault) listed_so ∙ told

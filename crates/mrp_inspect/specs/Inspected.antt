@@ -1,11 +1,13 @@
 -- What is told of a folder's files (profile).
-use Rattle.std.specs.Prelude.{ℕ, Bool, true, false, ◌≡◌, ◌≢◌, List, Option, string_bytes}
+use Rattle.std.specs.Prelude.{ℕ, Bool, true, false, ◌≡◌, ◌≢◌, List, Option, Result, Ok, Err, String, string_bytes}
+use Rattle.std.specs.declared.alloc.Global.{Global}
 use Rattle.mrp_rows.specs.Joined.{joined}
 use Rattle.mrp_rows.specs.declared.fault.Fault.{Fault}
 use Rattle.mrp_rows.specs.declared.fault.Table.TheVariants as t
 use Rattle.mrp_rows.specs.declared.faults.TheConstants as faults
 use Rattle.mrp_tables.specs.declared.version.Version.TheVariants.{One}
-use Rattle.mrp_script.specs.Opened.{IsRefused}
+use Rattle.mrp_script.specs.Opened.{IsRefused, Opens}
+use Rattle.mrp_script.specs.declared.fault.OpenFault.{OpenFault}
 use Rattle.mrp_survey.specs.declared.source.Source.{Source}
 use Rattle.mrp_survey.specs.Survey.{FindsLoopsIn}
 use Rattle.mrp_survey.specs.Survey.{calendar_among, form_of, items_among, names_among, survey_told, version_among}
@@ -35,6 +37,11 @@ pub record IsSurveyOf (sources : List (Option Source)) (survey : Surveyed) : Typ
   pub calendar : survey.calendar ≡ calendar_among sources
   pub items : survey.items ≡ items_among sources (version_among sources)
   pub centres : survey.centres ≡ names_among sources (form_of t.Centres One)
+
+-- the warnings of a shop, or why it is not opened; or out of memory
+abbrev pub WarnsIfOpened : List ℕ → List (Option Source) → Result (String Global) OpenFault → Type 0
+WarnsIfOpened bundle sources (Ok text) = WarnsOf bundle sources (string_bytes text)
+WarnsIfOpened bundle sources (Err why) = Opens bundle (Err why)
 
 -- the text of all faults, with this one behind the first
 pub record IsFaultsText (found : Found) (sources : List (Option Source)) (fault : Fault) (text : List ℕ) : Type 0 where

@@ -1,8 +1,8 @@
 -- Lines of faults as a text (profile).
-use Rattle.std.specs.Prelude.{ℕ, ◌+◌, ◌==◌, if◌then◌else◌, List, [], ◌∷◌, ◌++◌, codes, decimal, flat_map, length}
+use Rattle.std.specs.Prelude.{ℕ, ◌+◌, ◌==◌, if◌then◌else◌, List, [], ◌∷◌, ◌++◌, codes, decimal, length}
 use Rattle.mrp_rows.specs.FaultText.{table_name, text_of_fault}
 use Rattle.mrp_rows.specs.declared.fault.Fault.{Fault}
-use Rattle.mrp_advice.specs.Listing.{Listed, with_line}
+use Rattle.mrp_advice.specs.Listing.{Listed, lines_text, with_line}
 use Rattle.mrp_advice.specs.Texts.{plural}
 
 -- how many faults there are
@@ -12,9 +12,6 @@ count_text count = decimal count ++ (codes " fault" ++ (plural count ++ codes " 
 -- the first line, with what `mrp plan` says behind it
 abbrev pub first_text : List ℕ → Fault → List ℕ
 first_text first f = first ++ (codes " (refused: " ++ (text_of_fault f ++ codes ")\n"))
-
-abbrev pub lines_text : List (List ℕ) → List ℕ
-lines_text lines = flat_map (λ line. line ++ codes "\n") lines
 
 -- lines, and how many there are
 abbrev pub listed : List ℕ → List (List ℕ) → Fault → List ℕ

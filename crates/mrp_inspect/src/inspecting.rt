@@ -8,7 +8,7 @@ ghost use Rattle.mrp_advice.specs.Listing.{listed_in, with_lines};
 ghost use Rattle.mrp_words.specs.Folder.{all_tables};
 ghost use Rattle.mrp_inspect.specs.Faults.{lines_if, lines_of};
 ghost use Rattle.mrp_inspect.specs.Found.{parts_of};
-ghost use Rattle.mrp_inspect.specs.Inspected.{Inspects, IsFaultsText, IsSurveyOf, Tells, bundle_in};
+ghost use Rattle.mrp_inspect.specs.Inspected.{Inspects, IsFaultsText, IsSurveyOf, Tells, WarnsIfOpened, bundle_in};
 ghost use Rattle.mrp_inspect.specs.Words.{path_text, missing_of, stray_text};
 ghost use Rattle.mrp_inspect.specs.Pieces.{pieces_of};
 ghost use Rattle.mrp_inspect.specs.Strays.{firsts_of, strays_of};
@@ -24,15 +24,14 @@ use crate::stray::{Stray, firsts_of, strays_of};
 use crate::warning::warnings_of;
 use crate::words::{path_text, push_files};
 use mrp_advice::{Listing, push_survey};
-use mrp_bill::Shop;
 use mrp_qty::NoMemory;
 use mrp_rows::Fault;
 use mrp_script::{OpenFault, open_shop};
 use mrp_survey::{Source, Survey, survey};
 use mrp_words::join_tables;
 use std::alloc::Global;
-use std::thread;
 use std::thread::Threads;
+use std::{mem, thread};
 
 /// What is told of a folder's files.
 #[derive(Drop)]
@@ -55,6 +54,7 @@ fn push_bare(alloc: Global, path_kind: PathKind, lines: &mut Listing) -> Result<
 
 // Adds the lines of what is wrong with files, and then with their records.
 fn push_all(
+    rt: &impl Threads,
     alloc: Global,
     firsts: &[Option<usize>],
     strays: &[Stray<'_>],
@@ -65,11 +65,12 @@ fn push_all(
     ensures { OnOk result (listed_in lines.new ≡ with_lines (listed_in lines.old) (map stray_text strays.now ++ filter_map (missing_of firsts.now others.now) all_tables ++ survey_lines survey.now)) }
 {
     push_files(alloc, strays, firsts, others, lines)?;
-    push_survey(alloc, survey, lines)
+    push_survey(rt, alloc, survey, lines)
 }
 
 // Adds the line of a folder that has none of the tables, or those of all faults.
 fn push_if(
+    rt: &impl Threads,
     alloc: Global,
     bare: bool,
     path_kind: PathKind,
@@ -84,12 +85,13 @@ fn push_if(
     if bare {
         push_bare(alloc, path_kind, lines)
     } else {
-        push_all(alloc, firsts, strays, others, survey, lines)
+        push_all(rt, alloc, firsts, strays, others, survey, lines)
     }
 }
 
 // Adds the lines of all faults.
 fn push_told(
+    rt: &impl Threads,
     alloc: Global,
     found: &Found,
     firsts: &[Option<usize>],
@@ -104,6 +106,7 @@ fn push_told(
     let bare = is_bare(found);
     let others = found.others.as_slice();
     push_if(
+        rt,
         alloc,
         bare,
         found.path_kind,
@@ -117,6 +120,7 @@ fn push_told(
 
 // The faults of tables that are refused, by a survey of their texts.
 fn faults_of(
+    rt: &impl Threads,
     alloc: Global,
     found: &Found,
     firsts: &[Option<usize>],
@@ -130,13 +134,13 @@ fn faults_of(
 {
     let remark = remark_text(alloc, fault)?;
     let mut lines = Listing::new(alloc, remark);
-    push_told(alloc, found, firsts, strays, survey, &mut lines)?;
+    push_told(rt, alloc, found, firsts, strays, survey, &mut lines)?;
     told_text(alloc, lines, fault)
 }
 
 // A survey of the texts of tables.
 fn survey_of(
-    rt: &impl Threads,
+    rt: &(impl Threads + Sync),
     alloc: Global,
     sources: &[Option<Source<'_>>; 9],
 ) -> Result<Survey, NoMemory>
@@ -145,28 +149,47 @@ fn survey_of(
     survey(rt, alloc, sources)
 }
 
-// The shop of a bundle, and a survey of the texts of its tables, in two threads if a second one can be started: a folder that
-// is inspected mostly has a fault, and then both are needed.
-fn open_and_survey(
+// The warnings of the shop of a bundle, or why it is not opened.
+fn open_and_warn(
+    rt: &impl Threads,
+    alloc: Global,
+    bundle: &[u8],
+    sources: &[Option<Source<'_>>; 9],
+) -> Result<String, OpenFault>
+    ensures { WarnsIfOpened bundle.now sources.now result }
+{
+    match open_shop(rt, alloc, bundle) {
+        Ok(shop) => match warnings_of(alloc, bundle, &shop, sources) {
+            Ok(text) => Ok(text),
+            Err(NoMemory) => Err(OpenFault::NoMemory),
+        },
+        Err(why) => Err(why),
+    }
+}
+
+// A survey of the texts of tables, and beside it what is odd about them or why they are refused, in two threads if a second one can
+// be started: nobody knows before whether they are refused, and either takes about as long as the other.
+fn survey_and_open(
     rt: &(impl Threads + Sync),
     alloc: Global,
     bundle: &[u8],
     sources: &[Option<Source<'_>>; 9],
-) -> (Result<Survey, NoMemory>, Result<Shop, OpenFault>)
+) -> (Result<Survey, NoMemory>, Result<String, OpenFault>)
     ensures surveyed { IfOk result.0 (IsSurveyOf sources.now) }
-    ensures opened { Opens bundle.now result.1 }
+    ensures opened { WarnsIfOpened bundle.now sources.now result.1 }
 {
     let tell = move || -> Result<Survey, NoMemory>
         ensures { IfOk result (IsSurveyOf sources.entry.now) }
     { survey_of(rt, alloc, sources) };
-    let open = move || -> Result<Shop, OpenFault>
-        ensures { Opens bundle.entry.now result }
-    { open_shop(rt, alloc, bundle) };
+    let open = move || -> Result<String, OpenFault>
+        ensures { WarnsIfOpened bundle.entry.now sources.entry.now result }
+    { open_and_warn(rt, alloc, bundle, sources) };
     thread::join(rt, tell, open)
 }
 
 // What is told where tables are refused, with a survey of their texts.
 fn inspect_refused(
+    rt: &impl Threads,
     alloc: Global,
     found: &Found,
     firsts: &[Option<usize>],
@@ -181,7 +204,7 @@ fn inspect_refused(
 {
     match why {
         OpenFault::Refused(fault) => {
-            let told = faults_of(alloc, found, firsts, strays, survey, &fault)?;
+            let told = faults_of(rt, alloc, found, firsts, strays, survey, &fault)?;
             Ok(Inspected {
                 text: told,
                 has_faults: true,
@@ -205,18 +228,19 @@ fn inspect_sources(
     requires strays { strays.now ≡ strays_of (pieces_of (parts_of found.now)) }
     ensures { IfOk result (λ inspected. Tells inspected.has_faults bundle.now found.now sources.now (string_bytes inspected.text)) }
 {
-    let (surveyed, opened) = open_and_survey(rt, alloc, bundle, sources);
+    let (surveyed, opened) = survey_and_open(rt, alloc, bundle, sources);
     let survey = surveyed?;
     match opened {
-        Ok(shop) => {
-            drop(survey);
-            let text = warnings_of(alloc, bundle, &shop, sources)?;
-            Ok(Inspected {
-                text,
-                has_faults: false,
-            })
+        Ok(text) => Ok(Inspected {
+            text,
+            has_faults: false,
+        }),
+        Err(why) => {
+            let told = inspect_refused(rt, alloc, found, firsts, strays, &survey, why);
+            // Of each record with a fault it has a copy, and the program ends soon.
+            mem::forget(survey);
+            told
         }
-        Err(why) => inspect_refused(alloc, found, firsts, strays, &survey, why),
     }
 }
 
@@ -250,7 +274,8 @@ fn inspect_pieces(
 /// all faults, each with its file, line and column, with what planning says behind the first; where they are
 /// accepted tells warnings of what is odd. Nothing is planned.
 ///
-/// Tables are read and at the same time surveyed, in up to four threads, as many as can be started.
+/// Tables are read and at the same time surveyed, in up to five threads, as many as can be started. The memory of a survey that is
+/// told is not given back.
 ///
 /// Errors: `NoMemory` if an allocation fails.
 pub fn inspect(

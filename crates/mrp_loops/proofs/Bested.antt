@@ -1,7 +1,6 @@
 -- The best line.
-use Rattle.std.proofs.Common.{◌≡◌, ◌⊎◌, inl, inr, ℕ, ◌<◌, ◌≤◌, List, length, refl, sym, ap, subst, ◌∙◌, arith}
+use Rattle.std.proofs.Common.{◌≡◌, ◌⊎◌, inl, inr, ℕ, ◌<◌, List, length, sym, subst, ◌∙◌}
 use Rattle.std.specs.Prelude.{⊤, Option, Some, None}
-use Rattle.std.proofs.lemmas.Option.{none-some, same_Some}
 use Rattle.mrp_loops.specs.declared.line.Line.{Line}
 use Rattle.mrp_loops.specs.declared.best.Best.{Best}
 use Rattle.mrp_loops.specs.Needs.{line_at}

@@ -3,6 +3,7 @@ pub mod Lawful
 pub mod Listed
 pub mod Markings
 pub mod Nearest
+pub mod Orders
 pub mod Searches
 pub mod Shortest
 pub mod Tellings

@@ -1,5 +1,5 @@
 -- How far the items are that a search has found.
-use Rattle.std.proofs.Common.{◌≡◌, ◌⊎◌, inl, inr, ℕ, ◌+◌, ◌<◌, ◌≤◌, List, [], ◌∷◌, ◌++◌, length, map, refl, sym, ap, subst, ◌∙◌, arith}
+use Rattle.std.proofs.Common.{◌≡◌, ◌⊎◌, inl, inr, ℕ, ◌<◌, ◌≤◌, List, [], ◌∷◌, ◌++◌, length, map, sym, ap, subst, ◌∙◌, arith}
 use Rattle.std.specs.Prelude.{Option, Some, None, slice_index}
 use Rattle.std.proofs.lemmas.Bool.{cases_lt}
 use Rattle.std.proofs.lemmas.List.{get_or_past}
@@ -10,7 +10,7 @@ use Rattle.mrp_loops.specs.declared.search.Search.{Search}
 use Rattle.mrp_loops.specs.Needs.{line_at, IsWay}
 use Rattle.mrp_loops.specs.Links.{turned}
 use Rattle.mrp_loops.specs.Ranks.{NeverRise}
-use Rattle.mrp_loops.specs.Search.{far_at, met_at, unmet, AreListed, AreNearest, IsSearch, IsSearched}
+use Rattle.mrp_loops.specs.Search.{far_at, met_at, AreListed, AreNearest, IsSearched}
 use Rattle.mrp_loops.proofs.Ways.{way-push, way-turned_back}
 
 pub far-inside : (far : List (Option ℕ)) (item d : ℕ) → far_at far item ≡ Some d → item < length far

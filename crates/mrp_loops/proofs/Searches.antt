@@ -1,7 +1,6 @@
 -- The steps of a search.
-use Rattle.std.proofs.Common.{◌≡◌, ◌⊎◌, inl, inr, ℕ, ◌+◌, ◌<◌, ◌≤◌, List, [], ◌∷◌, ◌++◌, length, refl, sym, ap, subst, ◌∙◌, arith}
+use Rattle.std.proofs.Common.{◌≡◌, ◌⊎◌, inl, inr, ℕ, ◌+◌, ◌<◌, ◌≤◌, List, [], ◌∷◌, length, refl, sym, ap, subst, ◌∙◌, arith}
 use Rattle.std.specs.Prelude.{Option, Some, None, replicate, slice_index}
-use Rattle.std.proofs.Math.ListN.{set}
 use Rattle.std.proofs.lemmas.Bool.{cases_eq, cases_lt}
 use Rattle.std.proofs.lemmas.List.{ext_get_or, get_or-replicate, get_or-set_same, get_or-set_other, length-set, length-append, length-replicate, get_or_push, get_or_append_left}
 use Rattle.std.proofs.lemmas.List.Folds.{sum_by-replicate}
@@ -13,7 +12,6 @@ use Rattle.mrp_loops.specs.declared.search.Search.{Search}
 use Rattle.mrp_loops.specs.Needs.{line_at, IsWay}
 use Rattle.mrp_loops.specs.Search.{far_at, met_at, one_if_unmet, unmet, AreListed, Extends, IsClear, IsMet, IsPassed, IsSearch, Meets, MeetsNew}
 use Rattle.mrp_loops.proofs.Listed.{AreDone}
-use Rattle.mrp_loops.proofs.Nearest.{far-inside}
 
 pub extends-refl : (s : Search) → Extends s s
 extends-refl s = record { longer = omega arith; kept = λ k below. refl }

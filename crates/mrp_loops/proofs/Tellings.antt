@@ -1,11 +1,11 @@
 -- The loops of the first items, and of one more.
-use Rattle.std.proofs.Common.{◌≡◌, ◌⊎◌, inl, inr, ℕ, ◌+◌, ◌<◌, ◌≤◌, Bool, true, false, List, [], ◌∷◌, ◌++◌, length, map, refl, sym, ap, subst, ◌∙◌, arith}
-use Rattle.std.specs.Prelude.{Vec, All, Some, slice_index, slice_index_or}
+use Rattle.std.proofs.Common.{◌≡◌, ◌⊎◌, inl, inr, ℕ, ◌+◌, ◌<◌, ◌≤◌, false, List, [], ◌∷◌, ◌++◌, length, map, sym, ap, subst, ◌∙◌, arith}
+use Rattle.std.specs.Prelude.{Vec, All, slice_index, slice_index_or}
 use Rattle.std.specs.declared.alloc.Global.{Global}
 use Rattle.std.specs.List.{Contains}
 use Rattle.std.proofs.lemmas.Bool.{cases_lt}
 use Rattle.std.proofs.lemmas.List.{get_or_push, get_or_append_left, length-append, map_push}
-use Rattle.std.proofs.lemmas.List.Elements.{All-cons, All-get_or, All-nil, All-push, All-weaker, Contains-append_left, Contains-push, Contains-push_cases}
+use Rattle.std.proofs.lemmas.List.Elements.{All-cons, All-nil, All-push, All-weaker, Contains-append_left, Contains-push, Contains-push_cases}
 use Rattle.mrp_loops.specs.declared.line.Line.{Line}
 use Rattle.mrp_loops.specs.declared.line.Loop.{Loop}
 use Rattle.mrp_loops.specs.declared.search.Search.{Search}
@@ -14,7 +14,7 @@ use Rattle.mrp_loops.specs.Needs.{AreWithin, line_at, IsWay, IsFirst, Needs, Nee
 use Rattle.mrp_loops.specs.Links.{turned}
 use Rattle.mrp_loops.specs.Loops.{AreRising, IsTold, IsWayBack, IsWithin, items_of}
 use Rattle.mrp_loops.specs.Ranks.{NeverRise}
-use Rattle.mrp_loops.specs.Search.{far_at, met_at, AreNearest, IsClear, IsMarked, IsMet, IsSearched, MarksBoth}
+use Rattle.mrp_loops.specs.Search.{met_at, AreNearest, IsClear, IsMarked, IsMet, IsSearched, MarksBoth}
 use Rattle.mrp_loops.specs.Telling.{IsTelling, TellsIfAny, TellsLoop}
 use Rattle.mrp_loops.proofs.Nearest.{nearest, same-down}
 use Rattle.mrp_loops.proofs.Ways.{needs-on, way-append, way-turned, way-turned_back}

@@ -9,6 +9,10 @@ use Rattle.mrp_loops.specs.Walk.{unseen}
 abbrev pub NeverRise : List Line → List ℕ → Type 0
 NeverRise lines ranks = (k : ℕ) → k < length lines → slice_index ranks (line_at lines k).component ≤ slice_index ranks (line_at lines k).parent
 
+-- each line's component has a later place than its parent
+abbrev pub AlwaysRise : List Line → List ℕ → Type 0
+AlwaysRise lines places = (k : ℕ) → k < length lines → slice_index places (line_at lines k).parent < slice_index places (line_at lines k).component
+
 -- the items not seen, and those on the stack
 abbrev pub to_rank : Ranking → ℕ
 to_rank r = unseen r.seen.items + length r.stack.items

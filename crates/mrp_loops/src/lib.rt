@@ -2,6 +2,7 @@
 #![tactic(auto)]
 
 mod best;
+mod falling;
 pub mod laws;
 mod line;
 mod links;

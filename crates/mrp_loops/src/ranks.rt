@@ -7,7 +7,6 @@ ghost use Rattle.mrp_loops.specs.Ranks.{NeverRise};
 
 use crate::line::Line;
 use crate::links::Links;
-use crate::walk::order_of;
 use mrp_qty::NoMemory;
 use std::alloc::Global;
 
@@ -118,23 +117,23 @@ fn never_rise(lines: &[Line], ranks: &[usize]) -> bool
 }
 
 // Ranks that never rise from a parent to its component. Each set of items that need one another has a
-// rank of its own, which is why the search for sets is linear in items and lines. Correctness does not
-// depend on that: should a rank rise, all items share one.
+// rank of its own, if a walk up through parents left the items in this order, which is why the search for
+// sets is linear in items and lines. Correctness does not depend on that: should a rank rise, all items
+// share one.
 pub(crate) fn ranks_of(
     alloc: Global,
     count: usize,
     lines: &[Line],
-    up: &Links,
     down: &Links,
+    order: &[usize],
 ) -> Result<Vec<usize>, NoMemory>
     requires lines { AreWithin count lines.now }
-    requires up { AreLinks count up.now }
     requires down { AreLinks count down.now }
+    requires order { All (λ item. item < count) order.now }
     ensures size { IfOk result (λ ranks. length ranks.items ≡ count) }
     ensures never_rise { IfOk result (λ ranks. NeverRise lines.now ranks.items) }
 {
-    let order = order_of(alloc, count, up)?;
-    let ranks = ranks_by(alloc, count, down, &order)?;
+    let ranks = ranks_by(alloc, count, down, order)?;
     if never_rise(lines, &ranks) {
         Ok(ranks)
     } else {

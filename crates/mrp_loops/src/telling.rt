@@ -1,13 +1,16 @@
 //! The loops of a bill.
 
-ghost use Rattle.std.specs.Prelude.{ℕ, All, IfOk, length};
+ghost use Rattle.std.specs.Prelude.{◌≡◌, ◌<◌, ℕ, All, IfOk, length};
+ghost use Rattle.mrp_loops.specs.Links.{AreLinks};
 ghost use Rattle.mrp_loops.specs.Loops.{AreRising, IsTold, IsWayBack, IsWithin, items_of};
 ghost use Rattle.mrp_loops.specs.Needs.{AreWithin, IsFirst, Needs};
 
+use crate::falling::always_falls;
 use crate::line::{Line, Loop};
 use crate::links::Links;
 use crate::ranks::ranks_of;
 use crate::search::Search;
+use crate::walk::order_of;
 use crate::way::way_back;
 use mrp_qty::NoMemory;
 use std::alloc::Global;
@@ -121,6 +124,33 @@ impl Telling {
     }
 }
 
+// The loops of a bill, by searches from the items, which a walk up through parents left in this order.
+fn search_all(
+    alloc: Global,
+    count: usize,
+    lines: &[Line],
+    up: &Links,
+    order: &[usize],
+) -> Result<Vec<Loop>, NoMemory>
+    requires lines { AreWithin count lines.now }
+    requires up { AreLinks count up.now }
+    requires same { up.now.lines.items ≡ lines.now }
+    requires order { All (λ item. item < count) order.now }
+    ensures within { IfOk result (λ loops. All (IsWithin count (length lines.now)) loops.items) }
+    ensures ways { IfOk result (λ loops. All (λ told. IsWayBack lines.now told.item told.way.items) loops.items) }
+    ensures firsts { IfOk result (λ loops. All (IsFirst lines.now) (items_of loops.items)) }
+    ensures rising { IfOk result (λ loops. AreRising (items_of loops.items)) }
+    ensures all { IfOk result (λ loops. (item : ℕ) → Needs lines.now item item → IsTold lines.now (items_of loops.items) item) }
+{
+    let down = Links::down(alloc, count, lines)?;
+    let ranks = ranks_of(alloc, count, lines, &down, order)?;
+    let mut telling = Telling::start(alloc, count)?;
+    for item in 0..count {
+        telling.look_at(alloc, lines, up, &down, &ranks, item)?;
+    }
+    Ok(telling.loops)
+}
+
 /// The loops of a bill, in table order: for each set of items that need one another, and for each item
 /// that needs itself, the first item of the set and the way from it back to it with the fewest lines. Of
 /// several such ways it is the one whose first differing line is earlier.
@@ -138,11 +168,10 @@ pub fn loops(alloc: Global, count: usize, lines: &[Line]) -> Result<Vec<Loop>, N
     ensures all { IfOk result (λ loops. (item : ℕ) → Needs lines.now item item → IsTold lines.now (items_of loops.items) item) }
 {
     let up = Links::up(alloc, count, lines)?;
-    let down = Links::down(alloc, count, lines)?;
-    let ranks = ranks_of(alloc, count, lines, &up, &down)?;
-    let mut telling = Telling::start(alloc, count)?;
-    for item in 0..count {
-        telling.look_at(alloc, lines, &up, &down, &ranks, item)?;
+    let order = order_of(alloc, count, &up)?;
+    let falls = always_falls(alloc, count, lines, &order)?;
+    if falls {
+        return Ok(Vec::new(alloc));
     }
-    Ok(telling.loops)
+    search_all(alloc, count, lines, &up, &order)
 }

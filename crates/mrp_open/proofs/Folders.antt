@@ -1,5 +1,5 @@
 -- The script among the tables of a folder.
-use Rattle.std.proofs.Common.{◌≡◌, ◌≢◌, ◌∙◌, ◌⊎◌, ◌≤◌, ◌<◌, ℕ, List, [], ◌∷◌, ◌++◌, Option, Some, None, inl, inr, ap, ap₂, length, map, refl, subst, sym}
+use Rattle.std.proofs.Common.{◌≡◌, ◌≢◌, ◌∙◌, ◌≤◌, ◌<◌, ℕ, List, [], ◌∷◌, ◌++◌, Option, Some, None, inl, inr, ap, ap₂, length, map, refl, subst, sym}
 use Rattle.std.proofs.lemmas.List.{append-nil}
 use Rattle.std.specs.List.{All, filter_map}
 use Rattle.std.proofs.lemmas.List.Elements.{All-cons, All-head, All-nil, All-tail}
@@ -7,8 +7,8 @@ use Rattle.mrp_rows.specs.declared.fault.Table.{Table}
 use Rattle.mrp_rows.specs.declared.fault.Table.TheVariants as t
 use Rattle.mrp_rows.specs.declared.streams.TheConstants.{GREATEST_BUNDLE}
 use Rattle.mrp_rows.specs.Joined.{Part}
-use Rattle.mrp_words.specs.Folder.{AreParts, Kept, Known, all_tables, part_in}
-use Rattle.mrp_open.specs.Start.{EndsWithout, HasFound, IsFoundOf, IsSplit, IsTooLong, TakesScript, bundle_with}
+use Rattle.mrp_words.specs.Folder.{AreParts, Kept, Known, part_in}
+use Rattle.mrp_open.specs.Start.{EndsWithout, HasFound, IsFoundOf, IsSplit, IsTooLong, TakesScript}
 use Rattle.mrp_open.specs.declared.finding.Found.{Found}
 
 abbrev NoScript : Part → Type 0

@@ -1,7 +1,6 @@
 -- The folder of an order desk that was opened on it.
-use Rattle.std.proofs.Common.{◌≡◌, ◌∙◌, ◌≤◌, ◌+◌, ℕ, List, [], ◌++◌, Option, inl, inr, ap, append-nil, append_assoc, arith, length, subst, sym}
+use Rattle.std.proofs.Common.{◌≡◌, ℕ, List, [], ◌++◌, Option, inl, inr, ap, append-nil, append_assoc, arith, length, subst, sym}
 use Rattle.std.specs.Prelude.{IsTrue}
-use Rattle.mrp_rows.specs.declared.streams.TheConstants.{GREATEST_BUNDLE}
 use Rattle.mrp_rows.specs.Joined.{Part}
 use Rattle.mrp_tables.specs.Tables.{Tables}
 use Rattle.mrp_master.specs.Supply.{supply_of}

@@ -20,7 +20,7 @@ use Rattle.mrp_intake.specs.Intake.{BringsKnown, Taken}
 use Rattle.mrp_intake.specs.Lines.{lines_of, told_lines, told_of}
 use Rattle.mrp_journal.specs.Held.{Held, IsSettled, settled}
 use Rattle.mrp_journal.specs.Journal.{with_more}
-use Rattle.mrp_calls.specs.Answers.{Answers, AnswersCall, AnswersLine, Stays, entry_of, full_text, no_memory_text, refusal_text}
+use Rattle.mrp_calls.specs.Answers.{Answers, AnswersCall, AnswersLine, Stays, entry_of, full_text, no_memory_text}
 use Rattle.mrp_calls.specs.Desk.{Desk, is_full}
 use Rattle.mrp_calls.specs.LineCall.{call_of_line}
 use Rattle.std.specs.Prelude.{Result, Ok, Err}
@@ -28,7 +28,7 @@ use Rattle.mrp_commands.specs.Refusal.{end_of_read}
 use Rattle.mrp_commands.specs.declared.ending.Ending.{Ending}
 use Rattle.mrp_commands.specs.declared.ending.Ending.TheVariants as ending
 use Rattle.mrp_open.specs.Runs.{HandsOver, HandsOverAll}
-use Rattle.mrp_open.specs.Served.{Advances, BringsLines, Fails, HandsMore, IsBatchEnd, IsServingEnd, Serves, Settles, SettlesRuns, Stand, Stops, StopsAt}
+use Rattle.mrp_open.specs.Served.{Advances, BringsLines, Fails, HandsMore, IsBatchEnd, IsServingEnd, Serves, Settles, SettlesRuns, Stand, StopsAt}
 
 -- What lines do to a desk.
 

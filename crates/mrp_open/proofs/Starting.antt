@@ -1,23 +1,19 @@
 -- Why an order desk does not open.
-use Rattle.std.proofs.Common.{◌≡◌, ◌∙◌, ◌⊎◌, ℕ, List, Ok, Err, Result, inl, inr, ap, length, map, refl, subst, sym}
+use Rattle.std.proofs.Common.{◌≡◌, ◌∙◌, ℕ, List, Err, inl, inr, ap, length, refl, sym}
 use Rattle.std.proofs.lemmas.List.{length-map}
-use Rattle.mrp_rows.specs.declared.fault.Fault.{Fault}
-use Rattle.mrp_rows.specs.declared.fault.Table.TheVariants as t
 use Rattle.mrp_rows.specs.declared.streams.ReadFault.{ReadFault}
 use Rattle.mrp_rows.specs.declared.streams.ReadFault.TheVariants as read
-use Rattle.mrp_rows.specs.Next.{columns_fault}
 use Rattle.mrp_tables.specs.Tables.{Tables}
 use Rattle.mrp_book.specs.declared.call.Call.{Call}
 use Rattle.mrp_book.specs.History.{asked}
 use Rattle.mrp_book.specs.Standing.{History}
-use Rattle.mrp_script.specs.Opened.{IsRefused, Opens}
+use Rattle.mrp_script.specs.Opened.{Opens}
 use Rattle.mrp_script.specs.Script.{script_of}
 use Rattle.mrp_script.specs.declared.fault.OpenFault.{OpenFault}
 use Rattle.mrp_script.specs.declared.fault.OpenFault.TheVariants as opening
 use Rattle.mrp_words.specs.Folder.{IsTooLongAt, Known}
-use Rattle.mrp_commands.specs.Refusal.{TellsFault, TellsOpening, end_of_read}
+use Rattle.mrp_commands.specs.Refusal.{TellsOpening, end_of_read}
 use Rattle.mrp_commands.specs.declared.ending.Ending.{Ending}
-use Rattle.mrp_commands.specs.declared.ending.Ending.TheVariants as ending
 use Rattle.mrp_open.specs.Start.{FailsToOpen, HasOtherSum, IsTooLong, TellsRefused, sum_path}
 use Rattle.mrp_open.specs.declared.start.TheConstants.{MOST_SUM}
 

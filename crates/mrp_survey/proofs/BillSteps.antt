@@ -1,5 +1,5 @@
 -- Bill lines, record by record, and the places of their items.
-use Rattle.std.proofs.Common.{◌≡◌, ◌∙◌, ◌+◌, ◌-◌, ◌<◌, ◌≤◌, ℕ, zero, suc, Bool, true, false, List, [], ◌∷◌, ◌++◌, Option, Some, None, map, take, nat_eq, refl, sym, ap, arith, append_assoc, append-nil}
+use Rattle.std.proofs.Common.{◌≡◌, ◌∙◌, ◌+◌, ◌-◌, ◌<◌, ◌≤◌, ℕ, zero, suc, Bool, true, false, List, [], ◌∷◌, ◌++◌, Ok, Option, Some, None, drop, map, take, nat_eq, refl, sym, ap, arith, append_assoc, append-nil}
 use Rattle.std.specs.Prelude.{if◌then◌else◌, option_and_then}
 use Rattle.std.specs.Cmp.Lexicographic.{pointwise}
 use Rattle.std.specs.List.{All}
@@ -9,17 +9,25 @@ use Rattle.std.proofs.lemmas.List.{length-map}
 use Rattle.std.proofs.lemmas.List.Elements.{All-append, All-cons, All-map, All-nil}
 use Rattle.std.proofs.lemmas.List.Quantifiers.{position-Some}
 use Rattle.mrp_loops.specs.declared.line.Line.{Line}
+use Rattle.mrp_rows.specs.declared.fault.Table.{Table}
+use Rattle.mrp_rows.specs.declared.fault.Table.TheVariants as t
+use Rattle.mrp_rows.specs.Shown.{Shown}
+use Rattle.mrp_rows.specs.Unread.{ReadsInto, Unread}
 use Rattle.mrp_tables.specs.Reading.{is_past}
 use Rattle.mrp_loops.specs.Needs.{AreWithin}
 use Rattle.mrp_survey.specs.declared.bill_lines.BillLine.{BillLine}
 use Rattle.mrp_survey.specs.declared.form.Form.{Form}
 use Rattle.mrp_survey.specs.BillLines.{bill_line, known_place, line_of, lines_from, within_limit}
+use Rattle.mrp_survey.specs.BillParts.{unless, within_left}
 use Rattle.mrp_survey.specs.Entry.{Entry}
 use Rattle.mrp_survey.specs.Entries.{name_in}
 use Rattle.mrp_survey.specs.Forms.{AllCells}
 use Rattle.mrp_survey.specs.Loops.{count_of, edges_of}
+use Rattle.mrp_survey.specs.Keys.{Key}
+use Rattle.mrp_survey.specs.Marks.{is_whole, keys_after, with_own}
 use Rattle.mrp_survey.specs.Names.{Names, place_among}
 use Rattle.mrp_survey.specs.Records.{Records}
+use Rattle.mrp_survey.specs.Rules.{key_in, key_of}
 use Rattle.mrp_survey.specs.Tables.{entry_at, width_of}
 
 -- a record more
@@ -75,11 +83,6 @@ pub edges-within : (form : Form) (items : Option Names) (records : Records) (n :
 edges-within form items records n rows lines is =
     rw is (All-map (λ (line : Line). (line.parent < count_of items) × (line.component < count_of items)) (λ (l : BillLine). l.line) (lines_from form items records n rows) (all-within form items records n rows))
 
--- the records within a limit, of those from one of this number on
-abbrev pub within_left : Option ℕ → ℕ → List AllCells → List AllCells
-within_left (Some limit) number rows = take (limit + 1 - number) rows
-within_left None number rows = rows
-
 -- at the first record these are all
 pub left-first : (limit : Option ℕ) (rows : List AllCells) → within_limit limit rows ≡ within_left limit 1 rows
 left-first (Some limit) rows = ap (λ (n : ℕ). take n rows) (omega arith)
@@ -108,3 +111,32 @@ left-none (Some limit) number rows none = ap (take (limit + 1 - number)) none �
     take-none zero = refl
     take-none (suc n) = refl
 left-none None number rows none = none
+
+-- a bill has nothing to itself
+pub no-key : (form : Form) (records : Records) (n : ℕ) (cells : AllCells) (width : ℕ) (entry : Entry) → entry ≡ entry_at form records n cells → form.table ≡ t.Bills → [] ≡ keys_after width [] entry
+no-key form records n cells width entry entry_is bills = by (is_whole width entry.row) (key_of entry) (ap (λ (own : Table). key_in own entry) (ap (λ (e : Entry). e.form.table) entry_is ∙ bills))
+  where
+    by : (b : Bool) (key : Option Key) → key ≡ None → [] ≡ (if b then with_own [] key entry.place.line else [])
+    by true key none = ap (λ (k : Option Key). with_own [] k entry.place.line) (sym none)
+    by false key none = refl
+
+-- behind one record more
+pub drop-next : (k : ℕ) (rows : List AllCells) (cells : AllCells) (rest : List AllCells) → drop k rows ≡ cells ∷ rest → drop (suc k) rows ≡ rest
+drop-next zero rows cells rest is = ap (drop 1) is
+drop-next (suc k) [] cells rest is = absurd cc
+drop-next (suc k) (row ∷ rows) cells rest is = drop-next k rows cells rest is
+
+drop-none : (k : ℕ) (rows : List AllCells) → drop k rows ≡ [] → drop (suc k) rows ≡ []
+drop-none zero rows is = ap (drop 1) is
+drop-none (suc k) [] is = refl
+drop-none (suc k) (row ∷ rows) is = drop-none k rows is
+
+-- a record more is passed over, if there is one
+pub passed-one : (rows old new : Unread) (k most : ℕ) (before row : Shown) (found : Bool) → ReadsInto old most before (Ok found) row new → old ≡ drop k rows → new ≡ drop (suc k) rows
+passed-one rows old new k most before row true reads is = sym (drop-next k rows reads.cells new (sym is ∙ reads.first))
+passed-one rows old new k most before row false reads is = reads.left ∙ sym (drop-none k rows (sym is ∙ reads.none))
+
+-- what stands behind where there is no end
+pub behind-same : {X : Type 0} (end : Bool) (xs ys : List X) → (end ≡ false → xs ≡ ys) → unless end xs ≡ unless end ys
+behind-same true xs ys same = refl
+behind-same false xs ys same = same refl

@@ -1,3 +1,4 @@
+mod BillParts
 mod BillSteps
 mod CalendarSteps
 mod CellLaws

@@ -1,4 +1,5 @@
 pub mod BillLines
+pub mod BillParts
 pub mod CellLaws
 pub mod Entries
 pub mod Entry

@@ -1,8 +1,9 @@
 //! The bill lines that lead from item to item.
 
-ghost use Rattle.std.specs.Prelude.{◌≡◌, ◌++◌, [], IfOk, OnOk};
+ghost use Rattle.std.specs.Prelude.{◌≡◌, ◌≤◌, ◌++◌, [], IfOk, OnOk, drop};
 ghost use Rattle.std.specs.Option.{option_to_list};
 ghost use Rattle.mrp_survey.specs.BillLines.{bill_line, bill_lines};
+ghost use Rattle.mrp_survey.specs.BillParts.{TellsBack, TellsFront, TellsSome, unless};
 ghost use Rattle.mrp_survey.specs.Sought.{named_of};
 ghost use Rattle.mrp_survey.specs.Tables.{told_from};
 
@@ -15,11 +16,13 @@ use crate::rule::{Beside, Named, found_in, look_up, misfit};
 use crate::seen::Seen;
 use crate::sheet::Sheet;
 use crate::table::is_past;
-use crate::tell::{add_key, is_whole, tell_record};
+use crate::tell::{is_whole, tell_record};
 use mrp_loops::Line;
 use mrp_qty::NoMemory;
-use mrp_rows::Records;
+use mrp_rows::{Records, Table};
 use std::alloc::Global;
+use std::thread::Threads;
+use std::{mem, thread};
 
 // A bill line: the number of its record, and the places of its items.
 #[derive(Clone, Copy)]
@@ -66,38 +69,171 @@ fn add_line(
     Ok(())
 }
 
-// Tells what is wrong with a table's records below its header, and returns their bill lines.
-pub(crate) fn tell_bill_lines(
+// What is told of bills that stand one behind the other, and those of them that lead from item to item.
+#[derive(Drop)]
+pub(crate) struct BillsTold {
+    findings: Vec<Finding>,
+    lines: Vec<BillLine>,
+    // Whether no bill behind them is told of.
+    is_end: bool,
+}
+
+// Tells, behind what was told before, what is wrong with bills from the one of a number on and up to one that is not read.
+fn tell_some(
     alloc: Global,
     form: Form,
     beside: &Beside,
     sheet: &Sheet<'_>,
     records: &mut Records<'_>,
-    findings: &mut Vec<Finding>,
-) -> Result<Vec<BillLine>, NoMemory>
-    ensures told { OnOk result (findings.new.items ≡ findings.old.items ++ told_from form beside.now sheet.now [] 1 records.old) }
-    ensures lines { IfOk result (λ lines. lines.items ≡ bill_lines form beside.now.items sheet.now records.old) }
+    first: usize,
+    past: usize,
+    before: Vec<Finding>,
+) -> Result<BillsTold, NoMemory>
+    requires bills { form.table ≡ Table.Bills }
+    requires ahead { first ≤ past }
+    ensures { IfOk result (TellsSome form beside.now sheet.now before.items first records.old past records.new) }
 {
     let width = columns(form).len();
     let limit = most_records(form);
-    let mut seen = Seen::new(alloc);
+    // No two bills have to differ.
+    let seen = Seen::new(alloc);
+    let mut findings = before;
     let mut lines = Vec::new(alloc);
     let mut row = mrp_rows::Record::new(alloc);
-    for number in 1..usize::MAX {
+    for number in first..past {
         if !records.next(width, &mut row)? {
-            return Ok(lines);
+            return Ok(BillsTold {
+                findings,
+                lines,
+                is_end: true,
+            });
         }
         let place = sheet.place(form.table, number);
         if is_past(limit, number) {
-            tell(place, &row, 0, What::TooMany, findings)?;
-            return Ok(lines);
+            tell(place, &row, 0, What::TooMany, &mut findings)?;
+            return Ok(BillsTold {
+                findings,
+                lines,
+                is_end: true,
+            });
         }
         let entry = Record::of(form, place, &row);
         let named = look_up(&beside.items, &entry);
-        tell_record(width, beside, &named, &seen, &entry, findings)?;
-        add_key(width, &entry, &mut seen)?;
+        tell_record(width, beside, &named, &seen, &entry, &mut findings)?;
         add_line(width, &beside.items, &named, &entry, &mut lines)?;
     }
-    // More records than can be numbered.
-    Err(NoMemory)
+    Ok(BillsTold {
+        findings,
+        lines,
+        is_end: false,
+    })
+}
+
+// Passes over so many records.
+fn pass_over(alloc: Global, count: usize, records: &mut Records<'_>) -> Result<(), NoMemory>
+    ensures { OnOk result (records.new ≡ drop count records.old) }
+{
+    let mut row = mrp_rows::Record::new(alloc);
+    for passed in 0..count {
+        let _ = records.next(0, &mut row)?;
+    }
+    Ok(())
+}
+
+// Takes findings out, and tells behind them what is wrong with the bills in front of the one of a number.
+fn tell_front(
+    alloc: Global,
+    form: Form,
+    beside: &Beside,
+    sheet: &Sheet<'_>,
+    records: &mut Records<'_>,
+    past: usize,
+    findings: &mut Vec<Finding>,
+) -> Result<BillsTold, NoMemory>
+    requires bills { form.table ≡ Table.Bills }
+    requires ahead { 1 ≤ past }
+    ensures { IfOk result (TellsFront form beside.now sheet.now findings.old.items records.old past) }
+{
+    let before = mem::replace(findings, Vec::new(alloc));
+    tell_some(alloc, form, beside, sheet, records, 1, past, before)
+}
+
+// Tells what is wrong with the bills from the one of a number on.
+fn tell_back(
+    alloc: Global,
+    form: Form,
+    beside: &Beside,
+    sheet: &Sheet<'_>,
+    records: &mut Records<'_>,
+    first: usize,
+) -> Result<BillsTold, NoMemory>
+    requires bills { form.table ≡ Table.Bills }
+    requires ahead { 1 ≤ first }
+    ensures { IfOk result (TellsBack form beside.now sheet.now records.old first) }
+{
+    pass_over(alloc, first - 1, records)?;
+    let none = Vec::new(alloc);
+    let told = tell_some(alloc, form, beside, sheet, records, first, usize::MAX, none)?;
+    if told.is_end {
+        Ok(told)
+    } else {
+        // More records than can be numbered.
+        Err(NoMemory)
+    }
+}
+
+// What is told of all bills, from what is told of those in front and of those behind, in place of the findings before.
+fn join_told(
+    front: BillsTold,
+    back: BillsTold,
+    findings: &mut Vec<Finding>,
+) -> Result<Vec<BillLine>, NoMemory>
+    ensures findings { OnOk result (findings.new.items ≡ front.findings.items ++ unless front.is_end back.findings.items) }
+    ensures lines { IfOk result (λ lines. lines.items ≡ front.lines.items ++ unless front.is_end back.lines.items) }
+{
+    let mut front = front;
+    let mut back = back;
+    if front.is_end {
+        *findings = front.findings;
+        return Ok(front.lines);
+    }
+    front.findings.append(&mut back.findings)?;
+    front.lines.append(&mut back.lines)?;
+    *findings = front.findings;
+    Ok(front.lines)
+}
+
+// Tells what is wrong with the bills below their header, in two threads if a second one can be started, and returns those that lead
+// from item to item. The records are given twice.
+pub(crate) fn tell_bill_lines(
+    rt: &impl Threads,
+    alloc: Global,
+    form: Form,
+    beside: &Beside,
+    sheet: &Sheet<'_>,
+    records: &mut Records<'_>,
+    again: &mut Records<'_>,
+    findings: &mut Vec<Finding>,
+) -> Result<Vec<BillLine>, NoMemory>
+    requires bills { form.table ≡ Table.Bills }
+    requires same { again.old ≡ records.old }
+    ensures told { OnOk result (findings.new.items ≡ findings.old.items ++ told_from form beside.now sheet.now [] 1 records.old) }
+    ensures lines { IfOk result (λ lines. lines.items ≡ bill_lines form beside.now.items sheet.now records.old) }
+{
+    let middle = sheet.middle();
+    let before = &mut *findings;
+    let read_front = move || -> Result<BillsTold, NoMemory>
+        requires bills { form.table ≡ Table.Bills }
+        requires ahead { 1 ≤ middle }
+        ensures { IfOk result (TellsFront form beside.entry.now sheet.entry.now before.entry.now.items records.entry.now middle) }
+    { tell_front(alloc, form, beside, sheet, records, middle, before) };
+    let read_back = move || -> Result<BillsTold, NoMemory>
+        requires bills { form.table ≡ Table.Bills }
+        requires ahead { 1 ≤ middle }
+        ensures { IfOk result (TellsBack form beside.entry.now sheet.entry.now again.entry.now middle) }
+    { tell_back(alloc, form, beside, sheet, again, middle) };
+    let (front, back) = thread::join(rt, read_front, read_back);
+    let front = front?;
+    let back = back?;
+    join_told(front, back, findings)
 }

@@ -121,6 +121,13 @@ impl<'a> Sheet<'a> {
         self.lines.get(number).copied().unwrap_or(0)
     }
 
+    // The number of a record about in the middle.
+    pub(crate) fn middle(&self) -> usize
+        ensures { 1 ≤ result }
+    {
+        1 + self.lines.len() / 2
+    }
+
     // Where a record is.
     pub(crate) fn place(&self, table: Table, number: usize) -> Place
         ensures { result ≡ place_of self.now table number }

@@ -23,8 +23,8 @@ use mrp_qty::NoMemory;
 use mrp_rows::{Record, Table};
 use mrp_tables::Version;
 use std::alloc::Global;
-use std::thread;
 use std::thread::Threads;
+use std::{mem, thread};
 
 // The records of a table, where it has a text.
 fn sheet_of<'a>(
@@ -270,7 +270,7 @@ fn tell_other(
     tell_table(alloc, form_of(table, version), beside, &sheet, findings)
 }
 
-// What is told of the tables from the stock to the bills.
+// What is told of the tables up to the bills.
 #[derive(Drop)]
 struct FirstTold {
     findings: Vec<Finding>,
@@ -280,6 +280,7 @@ struct FirstTold {
 
 // Tells what is wrong with the bills, and returns the sets of items that need one another.
 fn tell_bills(
+    rt: &impl Threads,
     alloc: Global,
     sources: &[Option<Source<'_>>; 9],
     beside: &Beside,
@@ -296,31 +297,34 @@ fn tell_bills(
     let Some(mut rows) = sheet.rows_below(alloc, form)? else {
         return Ok(Vec::new(alloc));
     };
-    let lines = tell_bill_lines(alloc, form, beside, &sheet, &mut rows, findings)?;
+    let Some(mut again) = sheet.rows_below(alloc, form)? else {
+        return Ok(Vec::new(alloc));
+    };
+    let lines = tell_bill_lines(
+        rt, alloc, form, beside, &sheet, &mut rows, &mut again, findings,
+    )?;
     loops_among(alloc, &beside.items, &sheet, &lines)
 }
 
-// Tells what is wrong with the tables from the stock to the bills.
+// Takes findings out, and tells behind them what is wrong with the tables from the stock to the bills.
 fn tell_first(
+    rt: &impl Threads,
     alloc: Global,
     sources: &[Option<Source<'_>>; 9],
     beside: &Beside,
+    findings: &mut Vec<Finding>,
 ) -> Result<FirstTold, NoMemory>
-    ensures { IfOk result (IsFirstTold sources.now beside.now) }
+    ensures { IfOk result (IsFirstTold sources.now beside.now findings.old.items) }
 {
     let first = Some(Version::One);
-    let mut findings = Vec::new(alloc);
-    tell_other(alloc, sources, beside, Table::Stock, first, &mut findings)?;
-    tell_other(
-        alloc,
-        sources,
-        beside,
-        Table::Receipts,
-        first,
-        &mut findings,
-    )?;
-    let loops = tell_bills(alloc, sources, beside, &mut findings)?;
-    Ok(FirstTold { findings, loops })
+    let mut own = mem::replace(findings, Vec::new(alloc));
+    tell_other(alloc, sources, beside, Table::Stock, first, &mut own)?;
+    tell_other(alloc, sources, beside, Table::Receipts, first, &mut own)?;
+    let loops = tell_bills(rt, alloc, sources, beside, &mut own)?;
+    Ok(FirstTold {
+        findings: own,
+        loops,
+    })
 }
 
 // What is told of the tables behind the bills.
@@ -357,7 +361,7 @@ fn tell_last(
 // Tells what is wrong with the tables that look at others, in two threads if a second one can be started, and returns the sets of
 // items that need one another.
 fn tell_others(
-    rt: &impl Threads,
+    rt: &(impl Threads + Sync),
     alloc: Global,
     sources: &[Option<Source<'_>>; 9],
     beside: &Beside,
@@ -370,14 +374,15 @@ fn tell_others(
     let read_last = move || -> Result<Vec<Finding>, NoMemory>
         ensures { IfOk result (λ findings. findings.items ≡ last_told sources.entry.now beside.entry.now version) }
     { tell_last(alloc, sources, beside, version) };
+    let before = &mut *findings;
     let read_first = move || -> Result<FirstTold, NoMemory>
-        ensures { IfOk result (IsFirstTold sources.entry.now beside.entry.now) }
-    { tell_first(alloc, sources, beside) };
+        ensures { IfOk result (IsFirstTold sources.entry.now beside.entry.now before.entry.now.items) }
+    { tell_first(rt, alloc, sources, beside, before) };
     let (last, first) = thread::join(rt, read_last, read_first);
     let mut first = first?;
     let mut last = last?;
-    findings.append(&mut first.findings)?;
-    findings.append(&mut last)?;
+    first.findings.append(&mut last)?;
+    *findings = first.findings;
     Ok(first.loops)
 }
 
@@ -404,11 +409,11 @@ fn surveyed(
 
 /// All that is wrong with the records of nine tables, which stand in the order of the tables; a table without a text is not read.
 ///
-/// The tables behind the work centres are read in two threads if a second one can be started.
+/// The tables behind the work centres are read in up to three threads, as many as can be started.
 ///
 /// Errors: `NoMemory` if an allocation fails.
 pub fn survey(
-    rt: &impl Threads,
+    rt: &(impl Threads + Sync),
     alloc: Global,
     sources: &[Option<Source<'_>>; 9],
 ) -> Result<Survey, NoMemory>

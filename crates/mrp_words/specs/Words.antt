@@ -42,8 +42,8 @@ dir_rule = record (new_rule (codes "dir")) {
 }
 
 -- the same, but required
-abbrev pub checked_rule : Rule
-checked_rule = record dir_rule { required = true }
+abbrev pub required_dir_rule : Rule
+required_dir_rule = record dir_rule { required = true }
 
 -- `--run K`, a number from 1
 abbrev pub run_rule : Rule
@@ -105,19 +105,19 @@ page_app = with_rule (with_rule (with_rule (with_rule (new_app (codes "page")) r
 
 -- `check`: its word, and its required option
 abbrev pub check_app : App
-check_app = with_rule (new_app (codes "check")) checked_rule
+check_app = with_rule (new_app (codes "check")) required_dir_rule
 
 -- `carry`: its word, and its options
 abbrev pub carry_app : App
-carry_app = with_rule (with_rule (with_rule (new_app (codes "carry")) checked_rule) start_rule) numbers_rule
+carry_app = with_rule (with_rule (with_rule (new_app (codes "carry")) required_dir_rule) start_rule) numbers_rule
 
 -- `inspect`: its word, and its required option
 abbrev pub inspect_app : App
-inspect_app = with_rule (new_app (codes "inspect")) checked_rule
+inspect_app = with_rule (new_app (codes "inspect")) required_dir_rule
 
 -- `desk`: its word, and its options
 abbrev pub desk_app : App
-desk_app = with_rule (with_rule (new_app (codes "desk")) workers_rule) checked_rule
+desk_app = with_rule (with_rule (new_app (codes "desk")) workers_rule) required_dir_rule
 
 -- no argument of a command is also one of its subcommands
 abbrev pub HasNoGlobals : Command → Type 0

@@ -4,9 +4,10 @@ ghost use Rattle.std.specs.Prelude.{◌≡◌, IfOk, false};
 ghost use Rattle.clap.specs.Matches.{found_of};
 ghost use Rattle.clap.specs.Simple.{app_of};
 ghost use Rattle.clap.specs.Walk.{rows_of, rule_of};
-ghost use Rattle.mrp_words.specs.Words.{HasCarryWords, HasNoGlobals, carry_app, checked_rule, numbers_rule, start_rule};
+ghost use Rattle.mrp_words.specs.Words.{HasCarryWords, HasNoGlobals, carry_app, numbers_rule, start_rule};
 
 use crate::command::{EXAMPLE, text_in};
+use crate::options::required_dir;
 use clap::{Arg, ArgAction, ArgMatches, Command};
 use std::alloc::{AllocError, Global};
 
@@ -37,18 +38,6 @@ pub struct CarryWords {
     pub start: Option<String>,
     /// Whether a list of numbers is asked for in place of a script.
     pub numbers: bool,
-}
-
-fn folder<'a>(alloc: Global) -> Arg<'a>
-    ensures rule { rule_of result ≡ checked_rule }
-    ensures local { result.global ≡ false }
-{
-    Arg::new(alloc, "dir")
-        .long("dir")
-        .value_name("D")
-        .action(ArgAction::Set)
-        .required(true)
-        .help(ABOUT_FOLDER)
 }
 
 fn start<'a>(alloc: Global) -> Arg<'a>
@@ -83,7 +72,7 @@ pub(crate) fn carry_command<'a>(alloc: Global) -> Result<Command<'a>, AllocError
         )
         .long_about(ABOUT_CARRY)
         .after_help(EXAMPLE)
-        .arg(folder(alloc))?
+        .arg(required_dir(alloc, ABOUT_FOLDER))?
         .arg(start(alloc))?
         .arg(numbers(alloc))
 }

@@ -1,12 +1,12 @@
 //! The words that ask for a day to be checked.
 
-ghost use Rattle.std.specs.Prelude.{◌≡◌, IfOk, false};
+ghost use Rattle.std.specs.Prelude.{◌≡◌, IfOk};
 ghost use Rattle.clap.specs.Simple.{app_of};
-ghost use Rattle.clap.specs.Walk.{rule_of};
-ghost use Rattle.mrp_words.specs.Words.{HasNoGlobals, check_app, checked_rule};
+ghost use Rattle.mrp_words.specs.Words.{HasNoGlobals, check_app};
 
 use crate::command::EXAMPLE;
-use clap::{Arg, ArgAction, Command};
+use crate::options::required_dir;
+use clap::Command;
 use std::alloc::{AllocError, Global};
 
 const ABOUT_CHECK: &str =
@@ -25,18 +25,6 @@ of its records, and the report of each run follows, but of one whose plan gets t
 const ABOUT_FOLDER: &str =
     "The folder whose files calendar.csv, items.csv and so on the day is checked beside";
 
-fn folder<'a>(alloc: Global) -> Arg<'a>
-    ensures rule { rule_of result ≡ checked_rule }
-    ensures local { result.global ≡ false }
-{
-    Arg::new(alloc, "dir")
-        .long("dir")
-        .value_name("D")
-        .action(ArgAction::Set)
-        .required(true)
-        .help(ABOUT_FOLDER)
-}
-
 pub(crate) fn check_command<'a>(alloc: Global) -> Result<Command<'a>, AllocError>
     ensures app { IfOk result (λ made. app_of made ≡ check_app) }
     ensures local { IfOk result HasNoGlobals }
@@ -45,5 +33,5 @@ pub(crate) fn check_command<'a>(alloc: Global) -> Result<Command<'a>, AllocError
         .about("Says whether a day from standard input is a right day of the files of a folder")
         .long_about(ABOUT_CHECK)
         .after_help(EXAMPLE)
-        .arg(folder(alloc))
+        .arg(required_dir(alloc, ABOUT_FOLDER))
 }

@@ -1,23 +1,22 @@
 //! What the words of the command line ask for, parsed by `clap`.
 
-ghost use Rattle.std.specs.Prelude.{◌≡◌, ℕ, IfErr, IfOk, Some, codes, false, map, option_map, string_bytes};
+ghost use Rattle.std.specs.Prelude.{◌≡◌, ℕ, IfErr, IfOk, Some, codes, map, option_map, string_bytes};
 ghost use Rattle.std.specs.Int.{IsInRange};
 ghost use Rattle.clap.specs.Matches.{first_value, found_of};
 ghost use Rattle.clap.specs.Values.{kind_of};
-ghost use Rattle.clap.specs.Walk.{rule_of};
 ghost use Rattle.clap.specs.Simple.{app_of, subcommand_rows_of};
 ghost use Rattle.mrp_words.specs.Help.{help_line, help_text};
-ghost use Rattle.mrp_words.specs.Words.{Asks, Enters, EntersCheckOrDay, EntersUncarried, EntersUninspected, EntersUnpaged, HasFolder, HasNoGlobals, HasWorkers, IsAsAsked, IsBy, IsEntered, IsOfKind, day_app, dir_among, dir_rule, mrp_command, workers_rule};
+ghost use Rattle.mrp_words.specs.Words.{Asks, Enters, EntersCheckOrDay, EntersUncarried, EntersUninspected, EntersUnpaged, HasFolder, HasNoGlobals, HasWorkers, IsAsAsked, IsBy, IsEntered, IsOfKind, day_app, dir_among, mrp_command};
 
 use crate::carry_words::{CarryWords, carry_command, carry_words};
 use crate::check_words::check_command;
 use crate::day::DayCommand;
 use crate::desk_words::desk_command;
 use crate::inspect_words::inspect_command;
+use crate::options::{dir, workers};
 use crate::page_words::{PageWords, page_command, page_words};
-use clap::builder::ValueParser;
 use clap::error::ErrorKind;
-use clap::{Arg, ArgAction, ArgMatches, Command, Error};
+use clap::{ArgMatches, Command, Error};
 use std::alloc::{AllocError, Global};
 use std::convert::AsStr;
 
@@ -65,9 +64,6 @@ reply the one that the entries before it decide, and each desk's calls in the or
 script without a run is taken with one more call, a run of desk 1 after all others.
 
 Bundles, --dir and the sections that are written are those of `mrp plan`: see `mrp plan --help`.";
-
-const ABOUT_WORKERS: &str =
-    "How many threads plan the items of a run and make the rows of a report, from 1 to 64; those that load work centres are as many as the machine has processors for, and each desk of a live day has one, whatever N is";
 
 const ABOUT_DIR: &str =
     "A folder, whose files calendar.csv, items.csv and so on are planned in place of standard input";
@@ -132,30 +128,6 @@ impl From<AllocError> for NoRequest {
     }
 }
 
-pub(crate) fn workers<'a>(alloc: Global) -> Arg<'a>
-    ensures rule { rule_of result ≡ workers_rule }
-    ensures local { result.global ≡ false }
-{
-    Arg::new(alloc, "workers")
-        .long("workers")
-        .value_name("N")
-        .action(ArgAction::Set)
-        .default_value("1")
-        .help(ABOUT_WORKERS)
-        .value_parser(ValueParser::Unsigned(1, MOST_WORKERS))
-}
-
-fn dir<'a>(alloc: Global) -> Arg<'a>
-    ensures rule { rule_of result ≡ dir_rule }
-    ensures local { result.global ≡ false }
-{
-    Arg::new(alloc, "dir")
-        .long("dir")
-        .value_name("D")
-        .action(ArgAction::Set)
-        .help(ABOUT_DIR)
-}
-
 // What the help says of a command, in a line and in full.
 fn help_of<'a>(command: DayCommand) -> (&'a str, &'a str)
     ensures line { result.0.now ≡ help_line command }
@@ -177,7 +149,7 @@ fn day_command<'a>(alloc: Global, command: DayCommand) -> Result<Command<'a>, Al
         .long_about(text)
         .after_help(EXAMPLE)
         .arg(workers(alloc))?
-        .arg(dir(alloc))
+        .arg(dir(alloc, ABOUT_DIR))
 }
 
 fn command<'a>(alloc: Global) -> Result<Command<'a>, AllocError>

@@ -1,12 +1,12 @@
 //! The words that ask for an order desk that stays open.
 
-ghost use Rattle.std.specs.Prelude.{◌≡◌, IfOk, false};
+ghost use Rattle.std.specs.Prelude.{◌≡◌, IfOk};
 ghost use Rattle.clap.specs.Simple.{app_of};
-ghost use Rattle.clap.specs.Walk.{rule_of};
-ghost use Rattle.mrp_words.specs.Words.{HasNoGlobals, checked_rule, desk_app};
+ghost use Rattle.mrp_words.specs.Words.{HasNoGlobals, desk_app};
 
-use crate::command::{EXAMPLE, workers};
-use clap::{Arg, ArgAction, Command};
+use crate::command::EXAMPLE;
+use crate::options::{required_dir, workers};
+use clap::Command;
 use std::alloc::{AllocError, Global};
 
 const ABOUT_DESK: &str =
@@ -32,18 +32,6 @@ One desk at a time can be open on a folder; `mrp plan`, `mrp live` and `mrp chec
 const ABOUT_FOLDER: &str =
     "The folder whose files calendar.csv, items.csv and so on have the shop, and script.csv its calls";
 
-fn folder<'a>(alloc: Global) -> Arg<'a>
-    ensures rule { rule_of result ≡ checked_rule }
-    ensures local { result.global ≡ false }
-{
-    Arg::new(alloc, "dir")
-        .long("dir")
-        .value_name("D")
-        .action(ArgAction::Set)
-        .required(true)
-        .help(ABOUT_FOLDER)
-}
-
 pub(crate) fn desk_command<'a>(alloc: Global) -> Result<Command<'a>, AllocError>
     ensures app { IfOk result (λ made. app_of made ≡ desk_app) }
     ensures local { IfOk result HasNoGlobals }
@@ -55,5 +43,5 @@ pub(crate) fn desk_command<'a>(alloc: Global) -> Result<Command<'a>, AllocError>
         .long_about(ABOUT_DESK)
         .after_help(EXAMPLE)
         .arg(workers(alloc))?
-        .arg(folder(alloc))
+        .arg(required_dir(alloc, ABOUT_FOLDER))
 }

@@ -1,12 +1,12 @@
 //! The words that ask for tables to be inspected.
 
-ghost use Rattle.std.specs.Prelude.{◌≡◌, IfOk, false};
+ghost use Rattle.std.specs.Prelude.{◌≡◌, IfOk};
 ghost use Rattle.clap.specs.Simple.{app_of};
-ghost use Rattle.clap.specs.Walk.{rule_of};
-ghost use Rattle.mrp_words.specs.Words.{HasNoGlobals, checked_rule, inspect_app};
+ghost use Rattle.mrp_words.specs.Words.{HasNoGlobals, inspect_app};
 
 use crate::command::EXAMPLE;
-use clap::{Arg, ArgAction, Command};
+use crate::options::required_dir;
+use clap::Command;
 use std::alloc::{AllocError, Global};
 
 const ABOUT_INSPECT: &str =
@@ -24,18 +24,6 @@ Exit status 1 means that there are faults.";
 
 const ABOUT_FOLDER: &str = "The folder whose files calendar.csv, items.csv and so on are inspected";
 
-fn folder<'a>(alloc: Global) -> Arg<'a>
-    ensures rule { rule_of result ≡ checked_rule }
-    ensures local { result.global ≡ false }
-{
-    Arg::new(alloc, "dir")
-        .long("dir")
-        .value_name("D")
-        .action(ArgAction::Set)
-        .required(true)
-        .help(ABOUT_FOLDER)
-}
-
 pub(crate) fn inspect_command<'a>(alloc: Global) -> Result<Command<'a>, AllocError>
     ensures app { IfOk result (λ made. app_of made ≡ inspect_app) }
     ensures local { IfOk result HasNoGlobals }
@@ -44,5 +32,5 @@ pub(crate) fn inspect_command<'a>(alloc: Global) -> Result<Command<'a>, AllocErr
         .about("Tells all faults of the tables that a folder has as files, or warnings")
         .long_about(ABOUT_INSPECT)
         .after_help(EXAMPLE)
-        .arg(folder(alloc))
+        .arg(required_dir(alloc, ABOUT_FOLDER))
 }

@@ -10,6 +10,7 @@ mod files;
 mod hint;
 mod inspect_words;
 pub mod laws;
+mod options;
 mod page_words;
 mod sights;
 

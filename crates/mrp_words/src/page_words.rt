@@ -4,9 +4,10 @@ ghost use Rattle.std.specs.Prelude.{◌≡◌, IfOk, false};
 ghost use Rattle.clap.specs.Matches.{found_of};
 ghost use Rattle.clap.specs.Simple.{app_of};
 ghost use Rattle.clap.specs.Walk.{rows_of, rule_of};
-ghost use Rattle.mrp_words.specs.Words.{HasNoGlobals, HasPageWords, dir_rule, items_rule, page_app, run_rule, title_rule};
+ghost use Rattle.mrp_words.specs.Words.{HasNoGlobals, HasPageWords, items_rule, page_app, run_rule, title_rule};
 
 use crate::command::{EXAMPLE, text_in};
+use crate::options::dir;
 use clap::builder::ValueParser;
 use clap::{Arg, ArgAction, ArgMatches, Command};
 use std::alloc::{AllocError, Global};
@@ -78,17 +79,6 @@ fn title<'a>(alloc: Global) -> Arg<'a>
         .help(ABOUT_TITLE)
 }
 
-fn tables<'a>(alloc: Global) -> Arg<'a>
-    ensures rule { rule_of result ≡ dir_rule }
-    ensures local { result.global ≡ false }
-{
-    Arg::new(alloc, "dir")
-        .long("dir")
-        .value_name("D")
-        .action(ArgAction::Set)
-        .help(ABOUT_TABLES)
-}
-
 pub(crate) fn page_command<'a>(alloc: Global) -> Result<Command<'a>, AllocError>
     ensures app { IfOk result (λ made. app_of made ≡ page_app) }
     ensures local { IfOk result HasNoGlobals }
@@ -100,7 +90,7 @@ pub(crate) fn page_command<'a>(alloc: Global) -> Result<Command<'a>, AllocError>
         .arg(run(alloc))?
         .arg(items(alloc))?
         .arg(title(alloc))?
-        .arg(tables(alloc))
+        .arg(dir(alloc, ABOUT_TABLES))
 }
 
 /// The options in the matches of the subcommand.

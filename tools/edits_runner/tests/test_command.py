@@ -120,7 +120,7 @@ class Together(InAFolder):
         self.assertFalse(go_together([low, high]))
 
     def test_crates_wait_until_there_are_enough_edits(self):
-        few, more = self.crate("few", 15), self.crate("more", 30)
+        few, more = self.crate("few", 25), self.crate("more", 50)
         waiting = Waiting([])
         waiting.add(few)
         self.assertEqual(waiting.together(), [])
@@ -132,7 +132,7 @@ class Together(InAFolder):
         self.assertEqual(waiting.take(), [])
 
     def test_there_is_a_most(self):
-        many, more = self.crate("many", 39), self.crate("more", 60)
+        many, more = self.crate("many", 59), self.crate("more", 90)
         waiting = Waiting([])
         waiting.add(many)
         waiting.add(more)
@@ -140,10 +140,11 @@ class Together(InAFolder):
 
 
 class Reports(unittest.TestCase):
-    def closed(self, ends, files):
+    def closed(self, ends, files, left=0):
         report = Report()
 
         def run():
+            report.leave(left)
             for is_well, is_control in ends:
                 report.controls += is_control
                 report.end(SimpleNamespace(name="small"), "a.edit", is_well, "refused")
@@ -165,3 +166,9 @@ class Reports(unittest.TestCase):
         self.assertEqual(self.closed([], [])[1], 1)
         self.assertEqual(self.closed([(True, True)], ["a", "b"])[1], 1)
         self.assertEqual(self.closed([(True, False)], ["a"])[1], 1)
+
+    def test_what_is_left_to_other_turns_is_counted(self):
+        text, status = self.closed([(True, True)], ["a", "b", "c"], left=2)
+        self.assertEqual(status, 0)
+        self.assertIn("2 edits wait for another turn", text)
+        self.assertEqual(self.closed([(True, True)], ["a", "b", "c"], left=1)[1], 1)

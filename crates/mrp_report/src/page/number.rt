@@ -21,13 +21,7 @@ fn cell_len(n: u64) -> usize
     requires { n < 1000 }
     ensures { result ≡ length (44 ∷ decimal n) }
 {
-    if n < 10 {
-        2
-    } else if n < 100 {
-        3
-    } else {
-        4
-    }
+    2 + usize::from(n >= 10) + usize::from(n >= 100)
 }
 
 #[inline(always)]

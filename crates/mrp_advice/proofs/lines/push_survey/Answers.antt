@@ -8,7 +8,7 @@ use Rattle.mrp_advice.proofs.Listings.{lines-both}
 use Rattle.mrp_advice.proofs.lines.push_survey.Goals as goal
 
 pub returns : goal.returns
-returns c =
+returns g c =
     let survey = c.args.survey.now in
     let old = listed_in c.args.lines.now in
     on_ok_weaker c.push_loops.result

@@ -7,7 +7,7 @@ use Rattle.mrp_inspect.proofs.Listing.{told-is}
 use Rattle.mrp_inspect.proofs.inspecting.faults_of.Goals as goal
 
 pub returns : goal.returns
-returns c = λ sources surveys.
+returns g c = λ sources surveys.
     let lines : List (List ℕ) = lines_of c.args.found.now c.args.survey.now in
     let fault = c.args.fault.now in
     IfOk-weaker c.told_text.result _ _

@@ -13,7 +13,7 @@ tells-faults : (bundle : List ℕ) (found : Found) (sources : List (Option Sourc
 tells-faults bundle found sources fault text refuses told = record { fault = fault; refused = refuses.0; known = refuses.1; told = told }
 
 pub returns-in_ok-told-in-Refused : goal.returns-in_ok-told-in-Refused
-returns-in_ok-told-in-Refused c = λ bundle sources opens surveys.
+returns-in_ok-told-in-Refused g c = λ bundle sources opens surveys.
     let fault = c.in-Refused.fault in
     let refuses : Opens bundle (Err (Refused fault)) = subst (λ (e : OpenFault). Opens bundle (Err e)) c.in-Refused.is opens in
     tells-faults bundle c.args.found.now sources fault (string_bytes c.in_ok-told-in-Refused.told) refuses (c.in_ok-told-in-Refused.ensures sources surveys)

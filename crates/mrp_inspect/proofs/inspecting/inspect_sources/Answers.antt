@@ -1,19 +1,19 @@
 use Rattle.std.proofs.Common.{List, Option, Result, subst}
-use Rattle.std.specs.Prelude.{Err, IfOk}
-use Rattle.mrp_bill.specs.Shop.{Shop}
+use Rattle.std.specs.Prelude.{Err, IfOk, String}
+use Rattle.std.specs.declared.alloc.Global.{Global}
 use Rattle.mrp_qty.specs.declared.memory.NoMemory.{NoMemory}
 use Rattle.mrp_script.specs.Opened.{Opens}
 use Rattle.mrp_script.specs.declared.fault.OpenFault.{OpenFault}
 use Rattle.mrp_survey.specs.declared.source.Source.{Source}
 use Rattle.mrp_survey.specs.Surveyed.{Surveyed}
-use Rattle.mrp_inspect.specs.Inspected.{IsSurveyOf}
+use Rattle.mrp_inspect.specs.Inspected.{IsSurveyOf, WarnsIfOpened}
 use Rattle.mrp_inspect.proofs.inspecting.inspect_sources.Goals as goal
 
 pub returns-in-Err : goal.returns-in-Err
 returns-in-Err g c =
-    let both = c.open_and_survey-surveyed in
+    let both = c.survey_and_open-surveyed in
     let sources : List (Option Source) = c.args.sources.now in
-    let opens : Opens c.args.bundle.now (Err c.in-Err.why) = subst (λ (r : Result Shop OpenFault). Opens c.args.bundle.now r) c.in-Err.is both.ensures.opened in
+    let opens : Opens c.args.bundle.now (Err c.in-Err.why) = subst (λ (r : Result (String Global) OpenFault). WarnsIfOpened c.args.bundle.now sources r) c.in-Err.is both.ensures.opened in
     let surveys : IsSurveyOf sources c.in_ok-survey.survey =
     subst (λ (r : Result Surveyed NoMemory). IfOk r (IsSurveyOf sources)) c.in_ok-survey.was both.ensures.surveyed in
-    c.inspect_refused.ensures c.args.bundle.now sources opens surveys
+    c.inspect_refused-told.ensures c.args.bundle.now sources opens surveys

@@ -9,7 +9,7 @@ use Rattle.mrp_inspect.specs.Words.{missing_of, stray_text}
 use Rattle.mrp_inspect.proofs.inspecting.push_all.Goals as goal
 
 pub returns : goal.returns
-returns c =
+returns g c =
     let old : Listed = listed_in c.args.lines.now in
     let files : List (List ℕ) = map stray_text c.args.strays.now ++ filter_map (missing_of c.args.firsts.now c.args.others.now) all_tables in
     let records : List (List ℕ) = survey_lines c.args.survey.now in

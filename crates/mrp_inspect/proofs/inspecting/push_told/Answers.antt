@@ -9,7 +9,7 @@ use Rattle.mrp_inspect.specs.Words.{missing_of, stray_text}
 use Rattle.mrp_inspect.proofs.inspecting.push_told.Goals as goal
 
 pub returns : goal.returns
-returns c =
+returns g c =
     on_ok_weaker c.push_if.result
     (λ is. is
     ∙ (λ i. with_lines (listed_in c.args.lines.now) (lines_if (c.is_bare-bare.ensures i) c.args.found.now.path_kind (map stray_text (c.requires.strays i) ++ filter_map (missing_of (c.requires.firsts i) (c.as_slice-others.ensures.value i)) all_tables) (survey_lines c.args.survey.now))))

@@ -1,4 +1,4 @@
-use Rattle.std.proofs.Common.{◌≡◌, ◌∙◌, ℕ, List, Option, Some, None, Err, ap, refl, subst, sym}
+use Rattle.std.proofs.Common.{◌≡◌, ℕ, List, Option, Some, None, Err, ap, refl, subst}
 use Rattle.std.specs.Prelude.{MatchOption}
 use Rattle.mrp_rows.specs.Told.{inner_of}
 use Rattle.mrp_intake.specs.Intake.{BringsKnown, Taken}

@@ -1,19 +1,17 @@
-use Rattle.std.proofs.Common.{◌≡◌, ◌∙◌, ◌≤◌, ◌-◌, ℕ, List, Option, ap, arith, drop, length, rules, subst, sym, take}
+use Rattle.std.proofs.Common.{◌≡◌, ◌≤◌, ◌-◌, ℕ, ap, arith, drop, length, subst, sym, take}
 use Rattle.std.specs.List.{All}
 use Rattle.std.proofs.lemmas.List.{length-drop, take_all}
 use Rattle.std.proofs.lemmas.List.Elements.{All-drop}
 use Rattle.mrp_rows.specs.Told.{inner_of}
 use Rattle.mrp_tables.specs.Tables.{Tables}
-use Rattle.mrp_master.specs.Supply.{supply_of}
 use Rattle.mrp_turn.specs.declared.log.Entry.{Entry}
 use Rattle.mrp_book.specs.declared.call.Call.{Call}
 use Rattle.mrp_book.specs.declared.reply.Reply.{Reply}
-use Rattle.mrp_book.specs.History.{IsLegal}
 use Rattle.mrp_book.specs.Standing.{History}
 use Rattle.mrp_intake.specs.Lines.{told_lines}
 use Rattle.mrp_runs.specs.File.{IsRun}
 use Rattle.mrp_open.specs.Runs.{HandsOverAll, IsRunOf}
-use Rattle.mrp_open.specs.Served.{Settles, Stand}
+use Rattle.mrp_open.specs.Served.{Stand}
 use Rattle.mrp_open.proofs.Runs.{runs-of}
 use Rattle.mrp_open.proofs.Settled.{at-least, same-tables, settles-runs}
 use Rattle.mrp_open.proofs.batches.settle_batch.Goals as goal

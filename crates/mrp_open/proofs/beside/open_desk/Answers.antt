@@ -1,4 +1,4 @@
-use Rattle.std.proofs.Common.{◌≡◌, inl, inr, subst}
+use Rattle.std.proofs.Common.{inl, inr, subst}
 use Rattle.mrp_commands.specs.Telling.{words_of}
 use Rattle.mrp_open.specs.Ends.{IsTold}
 use Rattle.mrp_open.proofs.Told.{is-told}

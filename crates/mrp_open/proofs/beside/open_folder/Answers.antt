@@ -1,6 +1,6 @@
-use Rattle.std.proofs.Common.{◌≡◌, List, ℕ, inl, inr, refl, subst}
+use Rattle.std.proofs.Common.{List, ℕ, inl, inr, refl, subst}
 use Rattle.std.specs.Prelude.{IfErr, IfOk}
-use Rattle.mrp_open.specs.Disk.{opening_of, path_of}
+use Rattle.mrp_open.specs.Disk.{opening_of}
 use Rattle.mrp_open.specs.Ends.{FailsToStart, IsServed}
 use Rattle.mrp_open.proofs.Ended.{starts-since}
 use Rattle.mrp_open.proofs.beside.open_folder.Goals as goal

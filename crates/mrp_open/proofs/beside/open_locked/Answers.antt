@@ -1,4 +1,4 @@
-use Rattle.std.proofs.Common.{◌≡◌, ◌∙◌, ℕ, List, refl, inr, subst, sym}
+use Rattle.std.proofs.Common.{◌∙◌, ℕ, List, refl, inr, subst, sym}
 use Rattle.std.specs.Prelude.{IfOk}
 use Rattle.mrp_tables.specs.Tables.{Tables}
 use Rattle.mrp_calls.specs.Desk.{Desk}

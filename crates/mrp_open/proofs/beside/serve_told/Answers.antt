@@ -1,4 +1,4 @@
-use Rattle.std.proofs.Common.{◌≡◌, ℕ, List, Option, subst, sym}
+use Rattle.std.proofs.Common.{ℕ, List, Option, subst, sym}
 use Rattle.mrp_rows.specs.Told.{inner_of}
 use Rattle.mrp_book.specs.Standing.{History}
 use Rattle.mrp_commands.specs.Telling.{words_of}

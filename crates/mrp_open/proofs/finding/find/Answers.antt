@@ -1,4 +1,4 @@
-use Rattle.std.proofs.Common.{◌≡◌, ◌<◌, ◌≤◌, ℕ, List, Vec, arith, length, map}
+use Rattle.std.proofs.Common.{◌<◌, ◌≤◌, ℕ, Vec, arith, length, map}
 use Rattle.std.specs.declared.alloc.Global.{Global}
 use Rattle.mrp_rows.specs.declared.fault.Table.{Table}
 use Rattle.mrp_rows.specs.declared.streams.TheConstants.{GREATEST_BUNDLE}

@@ -1,4 +1,4 @@
-use Rattle.std.proofs.Common.{◌≡◌, ◌∙◌, refl, subst, sym}
+use Rattle.std.proofs.Common.{◌∙◌, refl, subst, sym}
 use Rattle.std.proofs.Crossing.{crosses}
 use Rattle.std.proofs.Math.Logic.{∥∥₁_map}
 use denote.Param.Send.{sendable}

@@ -1,4 +1,4 @@
-use Rattle.std.proofs.Common.{◌≡◌, ◌∙◌, ℕ, Option, refl, subst, sym}
+use Rattle.std.proofs.Common.{◌∙◌, ℕ, Option, refl, subst, sym}
 use Rattle.std.specs.Prelude.{OnOk}
 use Rattle.mrp_report.specs.Taken.{HasTakenAll}
 use Rattle.mrp_runs.specs.Notes.{note_text}

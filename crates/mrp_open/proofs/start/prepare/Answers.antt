@@ -1,4 +1,4 @@
-use Rattle.std.proofs.Common.{◌≡◌, ℕ, List, Result, Ok, Err, ap, inl, subst}
+use Rattle.std.proofs.Common.{ℕ, List, Result, Ok, Err, ap, inl, subst}
 use Rattle.std.specs.Prelude.{IfErr}
 use Rattle.mrp_words.specs.Folder.{Known}
 use Rattle.mrp_commands.specs.declared.ending.Ending.{Ending}

@@ -1,4 +1,4 @@
-use Rattle.std.proofs.Common.{◌≡◌, ◌∙◌, ◌++◌, List, Result, Vec, ap, ap₂, subst}
+use Rattle.std.proofs.Common.{◌≡◌, ◌∙◌, ◌++◌, List, Result, Vec, ap₂, subst}
 use Rattle.std.specs.Prelude.{IfOk}
 use Rattle.std.specs.declared.alloc.Global.{Global}
 use Rattle.mrp_qty.specs.declared.memory.NoMemory.{NoMemory}
@@ -12,15 +12,14 @@ pub returns-clause-told : goal.returns-clause-told
 returns-clause-told g c =
     let sources = c.args.sources.now in
     let beside = c.args.beside.now in
-    let first : IsFirstTold sources beside c.in_ok-first.first = subst (λ (r : Result FirstTold NoMemory). IfOk r (IsFirstTold sources beside)) c.in_ok-first.was c.join-last.ensures.second in
+    let first : IsFirstTold sources beside c.args.findings.now.items c.in_ok-first.first = subst (λ (r : Result FirstTold NoMemory). IfOk r (IsFirstTold sources beside c.args.findings.now.items)) c.in_ok-first.was c.join-last.ensures.second.1.1 in
     let last : c.in_ok-last.last.items ≡ last_told sources beside c.args.version =
     subst (λ (r : Result (Vec Told Global) NoMemory). IfOk r (λ findings. findings.items ≡ last_told sources beside c.args.version)) c.in_ok-last.was c.join-last.ensures.first in
-    c.in_ok-append-2.ensures.items
-    ∙ ap₂ (λ (xs ys : List Told). xs ++ ys) (c.in_ok-append.ensures.items ∙ ap (λ (xs : List Told). c.args.findings.now.items ++ xs) first.findings) last
+    c.in_ok-append.ensures.items ∙ ap₂ (λ (xs ys : List Told). xs ++ ys) first.findings last
 
 pub returns-clause-loops : goal.returns-clause-loops
 returns-clause-loops g c =
     let sources = c.args.sources.now in
     let beside = c.args.beside.now in
-    let first : IsFirstTold sources beside c.in_ok-first.first = subst (λ (r : Result FirstTold NoMemory). IfOk r (IsFirstTold sources beside)) c.in_ok-first.was c.join-last.ensures.second in
+    let first : IsFirstTold sources beside c.args.findings.now.items c.in_ok-first.first = subst (λ (r : Result FirstTold NoMemory). IfOk r (IsFirstTold sources beside c.args.findings.now.items)) c.in_ok-first.was c.join-last.ensures.second.1.1 in
     first.loops

@@ -8,9 +8,9 @@ pub returns-clause-app : goal.returns-clause-app
 returns-clause-app c =
     let before : app_of c.after_help.result ≡ new_app (codes "check") =
     ap app_of_fields c.after_help.ensures ∙ ap app_of_fields c.long_about.ensures ∙ ap app_of_fields c.about.ensures ∙ c.new.ensures.app in
-    IfOk-weaker c.arg.result _ _ (λ made h. h.shape c.folder.ensures.local ∙ ap₂ with_rule before c.folder.ensures.rule) c.arg.ensures
+    IfOk-weaker c.arg.result _ _ (λ made h. h.shape c.required_dir.ensures.local ∙ ap₂ with_rule before c.required_dir.ensures.rule) c.arg.ensures
 
 pub returns-clause-local : goal.returns-clause-local
 returns-clause-local c =
     let before : (out-Command c.after_help.result).has_globals ≡ false = search rules in
-    IfOk-weaker c.arg.result _ _ (λ made h. h.globals ∙ ap₂ (λ (x y : Bool). x || y) before c.folder.ensures.local) c.arg.ensures
+    IfOk-weaker c.arg.result _ _ (λ made h. h.globals ∙ ap₂ (λ (x y : Bool). x || y) before c.required_dir.ensures.local) c.arg.ensures

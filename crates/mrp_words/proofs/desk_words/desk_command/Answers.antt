@@ -10,9 +10,9 @@ returns-clause-app c =
     let before : app_of c.after_help.result ≡ new_app (codes "desk") =
     ap app_of_fields c.after_help.ensures ∙ ap app_of_fields c.long_about.ensures ∙ ap app_of_fields c.about.ensures ∙ c.new.ensures.app in
     let has_workers : app_of c.in_ok-arg.field-0 ≡ with_rule (new_app (codes "desk")) workers_rule = c.in_ok-arg.ensures.shape c.workers.ensures.local ∙ ap₂ with_rule before c.workers.ensures.rule in
-    IfOk-weaker c.arg-2.result _ _ (λ made h. h.shape c.folder.ensures.local ∙ ap₂ with_rule has_workers c.folder.ensures.rule) c.arg-2.ensures
+    IfOk-weaker c.arg-2.result _ _ (λ made h. h.shape c.required_dir.ensures.local ∙ ap₂ with_rule has_workers c.required_dir.ensures.rule) c.arg-2.ensures
 
 pub returns-clause-local : goal.returns-clause-local
 returns-clause-local c =
     let first : (out-Command c.in_ok-arg.field-0).has_globals ≡ false = search rules in
-    IfOk-weaker c.arg-2.result _ _ (λ made h. h.globals ∙ ap₂ (λ (x y : Bool). x || y) first c.folder.ensures.local) c.arg-2.ensures
+    IfOk-weaker c.arg-2.result _ _ (λ made h. h.globals ∙ ap₂ (λ (x y : Bool). x || y) first c.required_dir.ensures.local) c.arg-2.ensures

@@ -14,11 +14,11 @@ returns-clause-app c =
     c.in_ok-arg-2.ensures.shape c.items.ensures.local ∙ ap₂ with_rule has_run c.items.ensures.rule in
     let has_title : app_of c.in_ok-arg-3.field-0 ≡ with_rule (with_rule (with_rule (new_app (codes "page")) run_rule) items_rule) title_rule =
     c.in_ok-arg-3.ensures.shape c.title.ensures.local ∙ ap₂ with_rule has_items c.title.ensures.rule in
-    IfOk-weaker c.arg-4.result _ _ (λ made h. h.shape c.tables.ensures.local ∙ ap₂ with_rule has_title c.tables.ensures.rule) c.arg-4.ensures
+    IfOk-weaker c.arg-4.result _ _ (λ made h. h.shape c.dir.ensures.local ∙ ap₂ with_rule has_title c.dir.ensures.rule) c.arg-4.ensures
 
 pub returns-clause-local : goal.returns-clause-local
 returns-clause-local c =
     let first : (out-Command c.in_ok-arg.field-0).has_globals ≡ false = search rules in
     let second : (out-Command c.in_ok-arg-2.field-0).has_globals ≡ false = c.in_ok-arg-2.ensures.globals ∙ ap₂ (λ (x y : Bool). x || y) first c.items.ensures.local in
     let third : (out-Command c.in_ok-arg-3.field-0).has_globals ≡ false = c.in_ok-arg-3.ensures.globals ∙ ap₂ (λ (x y : Bool). x || y) second c.title.ensures.local in
-    IfOk-weaker c.arg-4.result _ _ (λ made h. h.globals ∙ ap₂ (λ (x y : Bool). x || y) third c.tables.ensures.local) c.arg-4.ensures
+    IfOk-weaker c.arg-4.result _ _ (λ made h. h.globals ∙ ap₂ (λ (x y : Bool). x || y) third c.dir.ensures.local) c.arg-4.ensures

@@ -1,10 +1,9 @@
-use Rattle.std.proofs.Common.{◌∙◌, ◌<◌, List, ap, length, subst, sym}
-use Rattle.mrp_survey.specs.Finding.{Told}
+use Rattle.std.proofs.Common.{◌∙◌, ap, sym}
 use Rattle.mrp_advice.specs.Lines.{fault_line}
 use Rattle.mrp_advice.specs.Listing.{listed_in, with_line}
 use Rattle.mrp_advice.proofs.Runs.{begins, finishes, goes-on, no-runs}
-use Rattle.mrp_advice.proofs.lines.push_faults.Goals as goal
-use Rattle.mrp_advice.proofs.lines.push_faults.Goals.{then-not-follows+in_ok-push_fault, else-not-follows}
+use Rattle.mrp_advice.proofs.lines.push_runs.Goals as goal
+use Rattle.mrp_advice.proofs.lines.push_runs.Goals.{then-not-follows+in_ok-push_fault, else-not-follows}
 
 pub loop-next-preserved : goal.loop-next-preserved
 loop-next-preserved c =
@@ -32,4 +31,4 @@ returns c =
     (c.in_ok-push_fault-2.ensures ∙ ap (λ (n : _). with_line now (fault_line survey first n)) c.line-2.ensures)
 
 pub returns-in_default : goal.returns-in_default
-returns-in_default c = no-runs (listed_in c.args.lines.now) c.args.survey.now (subst (λ (faults : List Told). length faults < 1) c.findings.ensures c.in_default.len_below)
+returns-in_default c = no-runs (listed_in c.args.lines.now) c.args.survey.now c.args.faults.now c.in_default.len_below

@@ -3,7 +3,7 @@ use Rattle.clap.specs.Walk.{Rule, rule_of}
 use Rattle.clap.specs.declared.builder.value_parser.ValueParser.{ValueParser}
 use Rattle.clap.specs.declared.builder.value_parser.ValueParser.TheVariants.{Unsigned}
 use Rattle.mrp_words.specs.Words.{workers_rule}
-use Rattle.mrp_words.proofs.command.workers.Goals as goal
+use Rattle.mrp_words.proofs.options.workers.Goals as goal
 
 pub returns-clause-rule : goal.returns-clause-rule
 returns-clause-rule c =
