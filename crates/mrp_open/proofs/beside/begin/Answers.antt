@@ -20,7 +20,8 @@ returns-in_err-sealed-clause-unbegun g c =
     let records : ℕ = length c.entries-records.result.now in
     let count : records ≡ length (script_of tables) = ap (length {A = Entry Call Reply}) c.entries-records.ensures.entries ∙ as-many c.in_ok-desk.desk.entries tables c.in_ok-desk.ensures.answers.asked_are in
     let other : HasOtherSum known c.args.folder.now records (string_bytes found.sum) end = subst (λ (s : List ℕ). HasOtherSum known c.args.folder.now records s end) c.deref.ensures c.in_err-sealed.ensures.other in
-    passed-on c.from_residual-in_err-sealed.result end (FailsToBegin known c.args.folder.now found tables) c.from_residual-in_err-sealed.ensures.1 (other-sum known c.args.folder.now found tables records end c.in_ok-desk.ensures.takes count other)
+    let failed = FailsToWrite g.P-Journal.Store.failures (g.P.JournalPlace.opening c.args.place.now) (g.P.JournalPlace.opening c.args.place.now) in
+    passed-on c.from_residual-in_err-sealed.result end (FailsToBegin known c.args.folder.now found tables failed) c.from_residual-in_err-sealed.ensures.1 (other-sum known c.args.folder.now found tables failed records end c.in_ok-desk.ensures.takes count other)
 
 pub returns-clause-unsealed : goal.returns-clause-unsealed
 returns-clause-unsealed g c is =
