@@ -112,6 +112,7 @@ fn answer_batch<S: Store, W: Write>(
         (record { desk = desk.new; journal = S.held journal.new; output = W.contents (inner_of output.new) })) }
     ensures end { IfErr result (λ end. (end ≡ ending.NoMemory) ⊎ (end ≡ ending.Write)) }
     ensures write { result ≡ Err ending.Write → FailsToSettle (S.failures journal.old) (S.failures journal.new) output.old output.new }
+    ensures memory { result ≡ Err ending.NoMemory → (S.failures journal.new ≡ S.failures journal.old) × (failures_of output.new ≡ failures_of output.old) }
     ensures sound { OnOk result (S.failures journal.new ≡ S.failures journal.old) }
     ensures failures { OnOk result (failures_of output.new ≡ failures_of output.old) }
 {
@@ -144,6 +145,7 @@ fn settle_batch<S: Store, W: Write, T: RunTaker>(
         (record { desk = desk.new; journal = S.held journal.new; output = W.contents (inner_of output.new) }) end × (T.told taker.new ≡ T.told taker.old)) }
     ensures write { result ≡ Some ending.Write → FailsToSettle (S.failures journal.old) (S.failures journal.new) output.old output.new }
     ensures read { result ≡ Some ending.Read → ⊥ }
+    ensures memory { result ≡ Some ending.NoMemory → (S.failures journal.new ≡ S.failures journal.old) × (failures_of output.new ≡ failures_of output.old) }
     ensures sound { result ≡ None → S.failures journal.new ≡ S.failures journal.old }
     ensures failures { result ≡ None → failures_of output.new ≡ failures_of output.old }
 {
@@ -178,6 +180,7 @@ fn serve_batch<S: Store, R: Read, W: Write, T: RunTaker>(
         (record { desk = desk.new; journal = S.held journal.new; output = W.contents (inner_of output.new) }) end × (T.told taker.new ≡ T.told taker.old)) }
     ensures read { result ≡ Some ending.Read → FailsToRead input.old input.new }
     ensures write { result ≡ Some ending.Write → FailsToSettle (S.failures journal.old) (S.failures journal.new) output.old output.new }
+    ensures memory { result ≡ Some ending.NoMemory → (S.failures journal.new ≡ S.failures journal.old) × (failures_of output.new ≡ failures_of output.old) }
     ensures one { result ≡ None → IsOneRead (R.remaining (inner_of input.old)) (R.remaining (inner_of input.new)) }
     ensures heard { result ≡ None → failures_of input.new ≡ failures_of input.old }
     ensures sound { result ≡ None → S.failures journal.new ≡ S.failures journal.old }
@@ -209,6 +212,7 @@ pub fn serve<S: Store, R: Read, W: Write, T: RunTaker>(
         (T.told taker.old) (T.told taker.new) result }
     ensures read { result ≡ ending.Read → FailsToRead input.old input.new }
     ensures write { result ≡ ending.Write → FailsToSettle (S.failures journal.old) (S.failures journal.new) output.old output.new }
+    ensures memory { result ≡ ending.NoMemory → (S.failures journal.new ≡ S.failures journal.old) × (failures_of output.new ≡ failures_of output.old) }
 {
     let mut intake = Intake::new(alloc);
     let mut texts = Texts {
