@@ -95,6 +95,15 @@ impl<'a> WhereUsed<'a> {
         }
     }
 
+    // How many orders the parents have by all lines: how much room their requirements take.
+    pub fn count_orders(&self) -> usize {
+        let mut count: usize = 0;
+        for at in 0..self.len() {
+            count = count.saturating_add(self.line(at).orders.len());
+        }
+        count
+    }
+
     // Adds what parents' orders require in a week of an item that is no master item, by bill record and
     // then by order. It is faster if the weeks are asked for in order.
     pub fn required_in(
