@@ -9,6 +9,7 @@ pub mod PlanText
 pub mod OrderText
 pub mod PegText
 pub mod PegCells
+pub mod PegShares
 pub mod PegRows
 pub mod MessageText
 pub mod LoadText

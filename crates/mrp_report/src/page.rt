@@ -14,6 +14,7 @@ mod minutes;
 mod number;
 mod put;
 mod quoting;
+mod ready;
 mod word;
 
 use crate::fault::ReportFault;
@@ -27,6 +28,7 @@ use mrp_rows::{Told, Tries, write_text};
 pub(crate) use number::put_number;
 pub(crate) use put::put_byte;
 pub use quoting::is_quoted_text;
+pub(crate) use ready::ReadyCells;
 use std::alloc::{AllocError, Global};
 use std::io::Write;
 use std::marker::Model;

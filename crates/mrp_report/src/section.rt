@@ -12,6 +12,7 @@ mod item;
 mod loads;
 mod messages;
 mod orders;
+mod peg_shares;
 mod pegs;
 mod plan;
 mod promise_item;
@@ -141,7 +142,7 @@ impl Section {
             }
             Section::Plan => item_rows(alloc, page, names, plan.item(place)),
             Section::Orders => ordered_rows(page, names, plan.item(place)),
-            Section::Pegs => pegged_rows(alloc, page, plan, names, place),
+            Section::Pegs => pegged_rows(alloc, page, readings, place),
             Section::Messages => told_rows(alloc, page, names, plan.item(place)),
             Section::Loads => centre_rows(page, plan, &readings.loads, place),
         }

@@ -7,6 +7,7 @@ pub mod ListWritten
 pub mod HistoryTexts
 pub mod SectionTexts
 pub mod PegsWritten
+pub mod PegShares
 pub mod PromiseSums
 pub mod PromiseBookings
 pub mod PromiseSheets

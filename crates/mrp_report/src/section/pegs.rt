@@ -1,20 +1,21 @@
 //! The section `pegs`.
 
-ghost use Rattle.std.specs.Prelude.{◌≡◌, ◌<◌, [], ◌∷◌, ◌++◌, IfOk, IsTrue, OnOk, decimal, false};
+ghost use Rattle.std.specs.Prelude.{◌≡◌, ◌<◌, [], ◌∷◌, ◌++◌, IfOk, IfSome, IsTrue, OnOk, decimal, false};
 ghost use Rattle.mrp_report.specs.page.CellOf.{cell_of};
 ghost use Rattle.mrp_report.specs.section.PegText.{need_cells, peg_text};
 ghost use Rattle.mrp_item.specs.Inputs.{count};
 ghost use Rattle.mrp_item.specs.Plan.{outcome_of, plan_in};
 ghost use Rattle.mrp_report.specs.section.PegRows.{IsAdded, count_left, rows_left};
 ghost use Rattle.mrp_report.specs.ReportText.{pegged_text};
-ghost use Rattle.mrp_report.specs.section.PegCells.{needed_cells};
+ghost use Rattle.mrp_report.specs.section.PegCells.{needed_cells, parent_text};
 ghost use Rattle.mrp_report.specs.page.Rows.{row};
 ghost use Rattle.mrp_report.specs.page.WordText.{word_text};
 
-use crate::page::{Cell, CsvName, Line, Page, Word, put_byte, put_number, put_word};
+use crate::page::{Cell, CsvName, Line, Page, ReadyCells, Word, put_byte, put_number, put_word};
+use crate::section::readings::Readings;
 use crate::section::shop_names::ShopNames;
 use crate::section::source::{source_cell, source_word};
-use mrp_item::{Order, Plan};
+use mrp_item::Order;
 use mrp_peg::{Need, NeedKind, Peg, PegWalk};
 use mrp_qty::NoMemory;
 use std::alloc::Global;
@@ -112,11 +113,38 @@ fn peg_row(
     })
 }
 
+// A peg of the item with this name by which an order of the item serves an order of a parent. The cells of the
+// week, of the bill line and of the item's order stand ready.
+#[derive(Clone, Copy)]
+struct ParentLine<'a> {
+    name: &'a CsvName,
+    week: &'a ReadyCells,
+    order: usize,
+    line: &'a ReadyCells,
+    source: &'a ReadyCells,
+    quantity: u64,
+}
+
+impl Line for ParentLine<'_> {
+    ghost csv = { parent_text };
+
+    #[inline(always)]
+    fn put(&self, text: &mut [u8], at: usize) -> usize {
+        let end = self.name.put_first(text, at);
+        let end = self.week.put(text, end);
+        let end = put_number(text, end, self.order as u64);
+        let end = self.line.put(text, end);
+        let end = self.source.put(text, end);
+        let end = put_number(text, end, self.quantity);
+        put_byte(text, end, b'\n')
+    }
+}
+
 // The pegs of an item that are still to be put on a page.
 #[derive(Drop)]
 pub(crate) struct PegRows<'a> {
     walk: PegWalk<'a>,
-    names: &'a ShopNames<'a>,
+    readings: &'a Readings<'a>,
     name: &'a CsvName,
     orders: &'a [Order],
 }
@@ -125,21 +153,50 @@ impl<'a> PegRows<'a> {
     // All pegs of an item, none of them put yet.
     pub(crate) fn of(
         alloc: Global,
-        plan: &'a Plan,
-        names: &'a ShopNames<'a>,
+        readings: &'a Readings<'a>,
         item: usize,
     ) -> Result<PegRows<'a>, NoMemory>
-        requires names { names.now.tables.now ≡ plan.now.inputs.tables }
-        requires within { item < count plan.now.inputs }
-        ensures { IfOk result (λ rows. rows_left rows ≡ pegged_text plan.now.inputs item (plan_in (outcome_of plan.now.inputs item))) }
+        requires { item < count readings.now.plan.now.inputs }
+        ensures { IfOk result (λ rows. rows_left rows ≡ pegged_text readings.now.plan.now.inputs item (plan_in (outcome_of readings.now.plan.now.inputs item))) }
     {
-        let walk = PegWalk::of(alloc, plan, item)?;
+        let walk = PegWalk::of(alloc, readings.plan, item)?;
         Ok(PegRows {
             walk,
-            names,
-            name: names.item(item),
-            orders: plan.orders(item),
+            readings,
+            name: readings.names.item(item),
+            orders: readings.plan.orders(item),
         })
+    }
+
+    // The row of a peg, if all that it shares stands ready.
+    #[inline(always)]
+    fn parent_line(&self, peg: &Peg) -> Option<ParentLine<'a>>
+        ensures { IfSome result (λ line. parent_text line ≡ peg_text self.now.readings.now.names.tables.now self.now.name.now self.now.orders.now peg.now) }
+    {
+        let need = peg.need?;
+        let NeedKind::Parent { line, order } = need.kind else {
+            return None;
+        };
+        let shares = &self.readings.pegs;
+        Some(ParentLine {
+            name: self.name,
+            week: shares.week(need.week)?,
+            order,
+            line: shares.line(line)?,
+            source: shares.source(peg.supply, self.orders)?,
+            quantity: peg.quantity.value(),
+        })
+    }
+
+    // Adds a peg.
+    #[inline(always)]
+    fn add(&self, page: &mut Page, peg: &Peg) -> Result<(), NoMemory>
+        ensures { OnOk result (page.new ≡ page.old ++ peg_text self.now.readings.now.names.tables.now self.now.name.now self.now.orders.now peg.now) }
+    {
+        match self.parent_line(peg) {
+            Some(line) => page.line(&line),
+            None => peg_row(page, &self.readings.names, self.name, self.orders, peg),
+        }
     }
 
     // Adds the next peg; returns whether there was one.
@@ -151,7 +208,7 @@ impl<'a> PegRows<'a> {
         let Some(peg) = self.walk.next()? else {
             return Ok(false);
         };
-        peg_row(page, self.names, self.name, self.orders, &peg)?;
+        self.add(page, &peg)?;
         Ok(true)
     }
 }
@@ -160,15 +217,13 @@ impl<'a> PegRows<'a> {
 pub(crate) fn pegged_rows(
     alloc: Global,
     page: &mut Page,
-    plan: &Plan,
-    names: &ShopNames<'_>,
+    readings: &Readings<'_>,
     item: usize,
 ) -> Result<(), NoMemory>
-    requires names { names.now.tables.now ≡ plan.now.inputs.tables }
-    requires within { item < count plan.now.inputs }
-    ensures { OnOk result (page.new ≡ page.old ++ pegged_text plan.now.inputs item (plan_in (outcome_of plan.now.inputs item))) }
+    requires { item < count readings.now.plan.now.inputs }
+    ensures { OnOk result (page.new ≡ page.old ++ pegged_text readings.now.plan.now.inputs item (plan_in (outcome_of readings.now.plan.now.inputs item))) }
 {
-    let mut rows = PegRows::of(alloc, plan, names, item)?;
+    let mut rows = PegRows::of(alloc, readings, item)?;
     while rows.add_next(page)? {}
     Ok(())
 }

@@ -28,7 +28,7 @@ fn write_pegged<W: Write>(
     requires { item < count readings.now.plan.now.inputs }
     ensures { Passes W.contents writer.old writer.new (page.old ++ pegged_text readings.now.plan.now.inputs item (plan_in (outcome_of readings.now.plan.now.inputs item))) page.new tries.old tries.new result }
 {
-    let mut rows = PegRows::of(alloc, readings.plan, &readings.names, item)?;
+    let mut rows = PegRows::of(alloc, readings, item)?;
     while rows.add_next(page)? {
         page.pass_on(writer, tries)?;
     }

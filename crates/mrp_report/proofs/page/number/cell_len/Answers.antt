@@ -1,12 +1,6 @@
-use Rattle.std.proofs.Common.{arith}
-use Rattle.mrp_report.proofs.lemmas.page.Digits.{length_one, length_three, length_two}
+use Rattle.std.proofs.lemmas.Bool.{leb-false, leb-true}
+use Rattle.mrp_report.proofs.lemmas.page.Digits.{length_small}
 use Rattle.mrp_report.proofs.page.number.cell_len.Goals as goal
 
-pub returns-then-n-lt10 : goal.returns-then-n-lt10
-returns-then-n-lt10 c = omega (arith, length_one c.args.n c.if-n-lt10.true)
-
-pub returns-then-n-lt100 : goal.returns-then-n-lt100
-returns-then-n-lt100 c = omega (arith, length_two c.args.n c.if-n-lt10.false c.if-n-lt100.true)
-
-pub returns-else-n-lt100 : goal.returns-else-n-lt100
-returns-else-n-lt100 c = omega (arith, length_three c.args.n c.if-n-lt100.false c.requires)
+pub returns : goal.returns
+returns c = rw (c.from.ensures, c.from-2.ensures) (length_small c.args.n _ _ (leb-true 10 c.args.n) (leb-false 10 c.args.n) (leb-true 100 c.args.n) (leb-false 100 c.args.n) c.requires)

@@ -5,7 +5,7 @@ use Rattle.mrp_report.specs.ReportText.{pegged_text}
 use Rattle.mrp_report.proofs.section.pegs.pegged_rows.Given as goal
 
 abbrev pub invariant-loop-rows : goal.invariant-loop-rows
-invariant-loop-rows l = l.page ++ rows_left l.rows ≡ l.fn.page ++ pegged_text l.plan.inputs l.item (plan_in (outcome_of l.plan.inputs l.item))
+invariant-loop-rows l = l.page ++ rows_left l.rows ≡ l.fn.page ++ pegged_text l.fn.readings.plan.now.inputs l.item (plan_in (outcome_of l.fn.readings.plan.now.inputs l.item))
 
 abbrev pub decreases-loop-rows : goal.decreases-loop-rows
 decreases-loop-rows l = count_left l.rows

@@ -1,9 +1,9 @@
-use Rattle.std.proofs.Common.{◌++◌, List, ℕ, rules}
+use Rattle.std.proofs.Common.{◌++◌, List, ℕ, refl, sym, ap, rules}
 use Rattle.mrp_item.specs.Plan.{outcome_of, plan_in}
 use Rattle.mrp_report.specs.section.PegRows.{IsAdded, rows_left}
 use Rattle.mrp_report.specs.ReportText.{pegged_text}
 use Rattle.mrp_report.proofs.lemmas.section.PegsWritten.{to-added, to-passed}
-use Rattle.mrp_report.proofs.Progress.{ends-at_once, ends-failed, ends-refused}
+use Rattle.mrp_report.proofs.Progress.{ends-at_once, ends-failed, ends-refused, written-none}
 use Rattle.mrp_report.proofs.wave.in_turn.write_pegged.Goals as goal
 
 pub returns-in_err-rows : goal.returns-in_err-rows
@@ -17,6 +17,13 @@ returns-in_err-add_next g c =
     let l = c.loop-rows in
     ends-refused g.W.Write.contents c.args.writer.now l.writer c.args.tries.now l.tries l.page l.invariant.text (rows_left l.rows) (c.args.page.now ++ pegged_text s c.args.item (plan_in (outcome_of s c.args.item)))
     c.from_residual-in_err-add_next.result l.invariant.written l.invariant.rest (search rules)
+
+pub loop-rows-init : goal.loop-rows-init
+loop-rows-init g c = record {
+  text = c.args.page.now;
+  written = written-none g.W.Write.contents c.args.writer.now c.args.tries.now c.args.tries.now c.args.page.now c.args.page.now refl refl;
+  rest = ap (λ (t : List ℕ). c.args.page.now ++ t) (sym c.in_ok-rows.ensures);
+}
 
 pub loop-rows-preserved : goal.loop-rows-preserved
 loop-rows-preserved g c =
