@@ -11,6 +11,7 @@
   tools/edits --in-turn ..       tries a part of the edits whose verdict the landing before has told, as the gate does (below)
   tools/edits --unspoiled ..     tries the copies without their edits, each of which has to be proved
   tools/edits --read ..          tries nothing: says within seconds which edits are bad, as one whose text has moved
+  tools/edits --compile ..       tries nothing: says which do not compile, in some seconds for each crate whose libraries are built
   tools/edits --save FOLDER ..   keeps what each check said, and how long each function took, in a folder that is there
 
 What an edit is
@@ -92,9 +93,12 @@ When such a check, a round, is believed
     the first and taken in the others. The prover keeps no refusal, and takes what it kept only where that is up to date.
 
 Turns
-    With --in-turn an edit may wait where its verdict has to be that of the landing before: since then neither it nor its
-    crate nor any below has changed (all their files but edits, and their lines in crates.txt), nor has the toolchain's
-    version. Of these a run tries the edits of a third of the functions, which the digest of the last commit's tree draws.
+    With --in-turn an edit may wait where its verdict has to be that of the landing before: since then it has not changed, nor
+    have its function and what is written of its proof, nor has what that proof may rest on: of its crate the lemmas and all
+    code but bodies, of its crate and of those below the definitions and all public code but bodies, and their lines in
+    crates.txt; nor has the toolchain's version. (Bodies of functions that can have no copy count as code that is seen, and
+    comments do not.) Of these a run tries the edits of a third of the functions, which the digest of the last commit's tree
+    draws.
     Controls and edits with a line `always:` never wait. An edit whose text has moved is bad in every turn.
     The landing before is the commit that tools/landed names. Whoever begins a change writes there the commit that landed
     last; an older one makes more count as changed, and nothing worse. Where git does not tell of that commit, as in a history
@@ -125,8 +129,8 @@ failed.
 Where the toolchain is another than the one that the runner knows, it says so at once and ends with status 2, since it reads
 the prover's words and takes the toolchain's own script as a module (toolchain.py).
 
-The modules, from the bottom up: `toolchain`; `bodies` (functions, as the layout tells them), `edit_files`, `turns` (which edits
-wait), `copies`, `rounds` (what one check tries), `verdicts` (what a check says), `checks` (how it is run), `judging` (what is
-believed of it), `trial` (a crate's edits), `together` (those of several crates), `report`, `command`. Their tests are in `tests`;
-no prover has a part in them: `python3 -B -m unittest discover` in tools.
+The modules, from the bottom up: `toolchain`; `bodies` (functions, as the layout tells them), `edit_files`, `changes` (what has
+changed since a landing), `turns` (which edits wait), `copies`, `rounds` (what one check tries), `verdicts` (what a check says),
+`checks` (how it is run), `judging` (what is believed of it), `trial` (a crate's edits), `together` (those of several crates),
+`report`, `command`. Their tests are in `tests`; no prover has a part in them: `python3 -B -m unittest discover` in tools.
 """

@@ -8,11 +8,13 @@ from concurrent.futures import ThreadPoolExecutor
 
 from . import __doc__ as PACKAGE
 from . import toolchain
+from .changes import NoTurn
 from .checks import CHECKS
+from .compiling import do_not_compile
 from .edit_files import edits_of, files_of_edits
 from .report import Report
 from .together import Waiting, try_together
-from .turns import TURNS, NoTurn, turn_at
+from .turns import TURNS, turn_at
 
 TOP = os.path.dirname(os.path.dirname(os.path.dirname(os.path.realpath(__file__))))
 
@@ -30,6 +32,7 @@ def words_given(words):
     known.add_argument("--save", help=argparse.SUPPRESS)
     known.add_argument("--unspoiled", action="store_true", help=argparse.SUPPRESS)
     known.add_argument("--read", action="store_true", help=argparse.SUPPRESS)
+    known.add_argument("--compile", action="store_true", help=argparse.SUPPRESS)
     given = known.parse_intermixed_args(words)
     if given.save and not os.path.isdir(given.save):
         known.error(f"{given.save} is no folder")
@@ -73,6 +76,19 @@ def read(crates, words):
     return 1 if bad or not good else 0
 
 
+def compile_them(crates, words):
+    """Says which edits of these crates, whose libraries are built, do not compile, and returns the exit status."""
+    good, bad = 0, 0
+    for crate in crates:
+        taken, refused = edits_of(crate, words)
+        wrong = [*refused, *((edit.name, why) for edit, why in do_not_compile(crate, taken))]
+        for name, why in wrong:
+            print(f"{crate.name}/{name}: DOES NOT COMPILE: {why[:200]}", flush=True)
+        good, bad = good + len(taken) + len(refused) - len(wrong), bad + len(wrong)
+    print(f"{good} edits compile, {bad} do not")
+    return 1 if bad or not good else 0
+
+
 def turn_told(top):
     """The turn in which edits are tried, or None where none may wait; it is said which, or why."""
     try:
@@ -80,7 +96,8 @@ def turn_told(top):
     except NoTurn as why:
         print(f"no edit waits for another turn: {why}", flush=True)
         return None
-    what = f"since {turn.landed[:8]} landed, {len(turn.changed)} crates have changed"
+    changes = turn.changes
+    what = f"since {turn.landed[:8]} landed, the interfaces of {len(changes.interfaces)} crates have changed, and {len(changes.functions)} functions"
     print(f"turn {turn.number + 1} of {TURNS}; {what}", flush=True)
     return turn
 
@@ -116,6 +133,8 @@ def main(words):
         return 2
     if given.read:
         return read(crates, given.words)
+    if given.compile:
+        return compile_them(crates, given.words)
     given.turn = turn_told(TOP) if given.in_turn else None
     given.lanes = given.lanes or (processors if given.as_proved else 1)
     CHECKS.jobs, CHECKS.saved = given.jobs or (1 if given.as_proved else min(4, processors)), given.save

@@ -40,7 +40,7 @@ def lay_out(table, sheet, names, ledger):
     first = row_of_heads(table, rows, names)
     above, heads, rows = [number for number, _ in rows[:first]], heads_in(rows[first][1]), rows[first + 1 :]
     if above:
-        ledger.say(sheet.title, f"rows above the heads are left out: {ranges(above)}")
+        ledger.say(sheet.title, f"rows above the heads are left out: {rows_in_short(above)}")
     at = columns_found(table, sheet, heads, names, ledger)
     if at is None or not are_narrow(sheet, heads, rows, ledger):
         return None
@@ -105,10 +105,10 @@ def tell_rows(sheet, rows, width, ledger):
     """Tells of rows that are left out or have fewer cells than heads."""
     nothing = [number for number, cells in sheet.rows if all(map(is_nothing, cells))]
     if nothing:
-        ledger.say(sheet.title, f"rows of nothing are left out: {ranges(nothing)}")
+        ledger.say(sheet.title, f"rows of nothing are left out: {rows_in_short(nothing)}")
     short = [number for number, cells in rows if len(cells) < width]
     if short:
-        ledger.say(sheet.title, f"rows of fewer cells are filled up with empty ones: {ranges(short)}")
+        ledger.say(sheet.title, f"rows of fewer cells are filled up with empty ones: {rows_in_short(short)}")
 
 
 def tell_heads(sheet, heads, at, rows, ledger):
@@ -121,15 +121,17 @@ def tell_heads(sheet, heads, at, rows, ledger):
     for place, head in enumerate(heads):
         count = sum(1 for _, cells in rows if place < len(cells) and not is_nothing(cells[place]))
         if place not in at.values() and (head or count):
-            ledger.say(sheet.title, f"a column is left out: {shown(head) if head else 'one without a head'}, {count} cells")
+            cells = f"{count} cell" if count == 1 else f"{count} cells"
+            ledger.say(sheet.title, f"a column is left out: {shown(head) if head else 'one without a head'}, {cells}")
 
 
-def ranges(numbers):
-    """Row numbers in short: 3, 5 to 9."""
+def rows_in_short(numbers):
+    """Rows by their numbers, in short: row 3, or rows 3, 5 to 9."""
     runs = []
     for number in numbers:
         if runs and runs[-1][1] == number - 1:
             runs[-1][1] = number
         else:
             runs.append([number, number])
-    return ", ".join(str(first) if first == last else f"{first} to {last}" for first, last in runs)
+    listed = ", ".join(str(first) if first == last else f"{first} to {last}" for first, last in runs)
+    return f"row {listed}" if len(numbers) == 1 else f"rows {listed}"

@@ -1,5 +1,4 @@
-//! What no worked day shows: calls of the libraries, readers and writers that fail, and words of
-//! the command line. Tests pass large values to `drop`, which is proved once rather than at the end
+//! What no worked day shows: calls of the libraries, threads, and readers and writers that fail. Tests pass large values to `drop`, which is proved once rather than at the end
 //! of each scope.
 
 ghost use Rattle.std.specs.Prelude.{◌≡◌, Ok};
@@ -9,20 +8,14 @@ use std::io::Eprint;
 use std::process::{Abort, Termination};
 use std::test::Fail;
 
-mod audits;
-mod checks;
 mod commands;
 mod cores;
-mod days;
 mod explosions;
 mod hints;
 mod live_days;
 mod loads;
 mod net_changes;
 mod notes;
-mod odd_streams;
-mod order_desks;
-mod pages;
 mod pegging;
 mod reports;
 mod streams;

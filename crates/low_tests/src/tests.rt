@@ -2,10 +2,9 @@
 //! when a call fails, so that no proof has to follow the drops of an early return, and pass large
 //! values to `drop`, which is proved once and not at the end of each scope.
 
-ghost use Rattle.std.specs.Prelude.{◌≡◌, ◌≢◌, Ok};
+ghost use Rattle.std.specs.Prelude.{◌≡◌, Ok};
 
 use mrp_qty::Qty;
-use mrp_rows::Table;
 use std::fmt::Debug;
 use std::process::Abort;
 use std::test::Fail;
@@ -15,32 +14,24 @@ mod boards;
 mod books;
 mod bundles;
 mod calendars;
-mod cells;
 mod cursors;
 mod faults;
 mod folders;
 mod groups;
 mod intakes;
-mod joined;
 mod journals;
-mod limits;
 mod lots;
 mod making;
-mod net_changes;
 mod netting;
 mod offices;
 mod plans;
 mod promises;
 mod quantities;
 mod records;
-mod snapshots;
 mod streams;
-mod tables;
 mod told;
 mod turns;
-mod versions;
 mod weeks;
-mod worked;
 mod workers;
 
 // The greatest quantity.
@@ -54,16 +45,6 @@ fn same<T: PartialEq + Debug + Drop>(rt: &impl Abort, got: T, want: T) {
 // A number of pieces as a quantity.
 fn pieces(rt: &impl Abort, count: u64) -> Qty {
     Qty::new(count).expect(rt, "a quantity")
-}
-
-// The table, which must be one of the nine.
-fn one_of_nine(rt: &impl Abort, table: Table) -> Table
-    ensures { result ≢ Table.Bundle }
-{
-    if let Table::Bundle = table {
-        panic!(rt; "a table");
-    }
-    table
 }
 
 // The value made from a sample shop, which must not be an error.

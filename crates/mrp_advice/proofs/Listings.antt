@@ -1,7 +1,10 @@
--- Lines that are added one by one.
+-- Lines that are added one by one, and texts that stand one behind the other.
 use Rattle.std.proofs.Common.{◌≡◌, ◌∙◌, ℕ, ◌+◌, ◌<◌, ◌≤◌, List, [], ◌∷◌, ◌++◌, add-zero, append-nil, append_assoc, arith, codes, drop, get_or, length, map, ap, refl, sym}
+use Rattle.std.specs.Prelude.{String, flat_map, string_bytes}
+use Rattle.std.specs.declared.alloc.Global.{Global}
 use Rattle.std.proofs.lemmas.Bool.{ne_eqb}
 use Rattle.std.proofs.lemmas.List.{drop_all, drop_more, get_or-map, length-map}
+use Rattle.std.proofs.lemmas.List.Concat.{flat_map-append}
 use Rattle.mrp_advice.specs.Listing.{Listed, lines_text, none_listed, remark_after, with_line, with_lines, with_listed}
 
 pub no_lines : (l : Listed) → with_lines l [] ≡ l
@@ -90,3 +93,14 @@ listed-both l front back some =
     ap (with_listed own) alone
     ∙ sym (lines-bare own.remark own.text own.count back (bare-behind l front some))
     ∙ sym (lines-both l front back)
+
+-- texts with one behind them
+pub texts-end : (texts : List (String Global)) (last : String Global) → flat_map string_bytes (texts ++ last ∷ []) ≡ flat_map string_bytes texts ++ string_bytes last
+texts-end texts last = flat_map-append string_bytes texts (last ∷ []) ∙ ap (λ (t : List ℕ). flat_map string_bytes texts ++ t) (append-nil (string_bytes last))
+
+-- texts with one behind them, and then other texts
+pub texts-behind : (texts others : List (String Global)) (text last : String Global)
+    → flat_map string_bytes ((texts ++ text ∷ []) ++ others) ++ string_bytes last ≡ (flat_map string_bytes texts ++ string_bytes text) ++ (flat_map string_bytes others ++ string_bytes last)
+texts-behind texts others text last =
+    ap (λ (t : List ℕ). t ++ string_bytes last) (flat_map-append string_bytes (texts ++ text ∷ []) others ∙ ap (λ (t : List ℕ). t ++ flat_map string_bytes others) (texts-end texts text))
+    ∙ append_assoc (flat_map string_bytes texts ++ string_bytes text) (flat_map string_bytes others) (string_bytes last)

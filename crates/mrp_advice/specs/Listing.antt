@@ -1,4 +1,4 @@
--- Lines as one text (profile).
+-- Lines as texts, one behind the other (profile).
 use Rattle.std.specs.Prelude.{ℕ, ◌+◌, ◌==◌, if◌then◌else◌, List, [], ◌∷◌, ◌++◌, codes, flat_map, length, string_bytes}
 use Rattle.mrp_advice.specs.declared.listing.Listing.{Listing}
 
@@ -9,7 +9,7 @@ pub record Listed : Type 0 where
   pub count : ℕ
 
 abbrev pub listed_in : Listing → Listed
-listed_in l = record { remark = string_bytes l.remark; text = string_bytes l.text; count = length l.ends.items }
+listed_in l = record { remark = string_bytes l.remark; text = flat_map string_bytes l.front.items ++ string_bytes l.text; count = length l.ends.items }
 
 -- no line, with what is to stand behind the first
 abbrev pub none_listed : List ℕ → Listed

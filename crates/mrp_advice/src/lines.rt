@@ -89,7 +89,7 @@ fn are_apart(front: &[Finding], back: &[Finding]) -> bool
 }
 
 // Takes lines out, and returns them with those of faults and of others behind them, in two threads if a second one can be started.
-fn lines_of_both(
+fn lines_of_quarters(
     rt: &impl Threads,
     alloc: Global,
     survey: &Survey,
@@ -114,8 +114,64 @@ fn lines_of_both(
 }
 
 // Takes lines out, and returns them with those of faults, in two threads where a run does not lie across the middle.
-fn lines_of_all(
+fn lines_of_half(
     rt: &impl Threads,
+    alloc: Global,
+    survey: &Survey,
+    half: &[Finding],
+    lines: &mut Listing,
+) -> Result<Listing, NoMemory>
+    ensures { IfOk result (λ own. listed_in own ≡ with_lines (listed_in lines.old) (run_lines survey.now half.now)) }
+{
+    let (front, back) = half.split_at(half.len() / 2);
+    if are_apart(front, back) {
+        lines_of_quarters(rt, alloc, survey, front, back, lines)
+    } else {
+        lines_behind(alloc, survey, half, lines)
+    }
+}
+
+// The same without a remark, behind no lines.
+fn lines_of_half_alone(
+    rt: &impl Threads,
+    alloc: Global,
+    survey: &Survey,
+    half: &[Finding],
+) -> Result<Listing, NoMemory>
+    ensures { IfOk result (λ own. listed_in own ≡ with_lines (none_listed []) (run_lines survey.now half.now)) }
+{
+    let mut none = Listing::new(alloc, String::new(alloc));
+    lines_of_half(rt, alloc, survey, half, &mut none)
+}
+
+// As `lines_of_quarters`, in two further threads.
+fn lines_of_halves(
+    rt: &(impl Threads + Sync),
+    alloc: Global,
+    survey: &Survey,
+    front: &[Finding],
+    back: &[Finding],
+    lines: &mut Listing,
+) -> Result<Listing, NoMemory>
+    requires { are_apart front.now back.now ≡ true }
+    ensures { IfOk result (λ own. listed_in own ≡ with_lines (listed_in lines.old) (run_lines survey.now (front.now ++ back.now))) }
+{
+    let tell_front = move || -> Result<Listing, NoMemory>
+        ensures { IfOk result (λ own. listed_in own ≡ with_lines (listed_in lines.entry.now) (run_lines survey.entry.now front.entry.now)) }
+    { lines_of_half(rt, alloc, survey, front, lines) };
+    let tell_back = move || -> Result<Listing, NoMemory>
+        ensures { IfOk result (λ own. listed_in own ≡ with_lines (none_listed []) (run_lines survey.entry.now back.entry.now)) }
+    { lines_of_half_alone(rt, alloc, survey, back) };
+    let (first, second) = thread::join(rt, tell_front, tell_back);
+    let mut all = first?;
+    let behind = second?;
+    all.append(behind)?;
+    Ok(all)
+}
+
+// Takes lines out, and returns them with those of faults, in four threads where no run lies across the middle or a quarter.
+fn lines_of_all(
+    rt: &(impl Threads + Sync),
     alloc: Global,
     survey: &Survey,
     faults: &[Finding],
@@ -125,7 +181,7 @@ fn lines_of_all(
 {
     let (front, back) = faults.split_at(faults.len() / 2);
     if are_apart(front, back) {
-        lines_of_both(rt, alloc, survey, front, back, lines)
+        lines_of_halves(rt, alloc, survey, front, back, lines)
     } else {
         lines_behind(alloc, survey, faults, lines)
     }
@@ -133,7 +189,7 @@ fn lines_of_all(
 
 // Adds a line for each fault.
 fn push_faults(
-    rt: &impl Threads,
+    rt: &(impl Threads + Sync),
     alloc: Global,
     survey: &Survey,
     lines: &mut Listing,
@@ -157,11 +213,11 @@ fn push_loops(loops: &[FoundLoop], lines: &mut Listing) -> Result<(), NoMemory>
 
 /// Adds a line for each fault of a survey, in their order, as `items.csv:5: lot: 'LFL' is not a lot rule; expected lfl, fixed or
 /// period`, and then one for each set of items that need one another. Records of empty cells alone that stand one behind the
-/// other have one line, that of the first. The lines are made in two threads if a second one can be started.
+/// other have one line, that of the first. The lines are made in up to four threads, as many as can be started.
 ///
 /// Errors: `NoMemory` if an allocation fails.
 pub fn push_survey(
-    rt: &impl Threads,
+    rt: &(impl Threads + Sync),
     alloc: Global,
     survey: &Survey,
     lines: &mut Listing,

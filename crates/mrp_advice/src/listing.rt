@@ -1,13 +1,16 @@
-//! Lines as one text.
+//! Lines as texts, one behind the other.
 
 ghost use Rattle.std.specs.Prelude.{◌≡◌, length};
 ghost use Rattle.mrp_advice.specs.Listing as spec;
 
 use std::alloc::{AllocError, Global};
+use std::mem;
 
-/// Lines, one below the other in one text. A remark stands behind the first.
+/// Lines, one below the other. A remark stands behind the first.
 #[derive(Drop)]
 pub struct Listing {
+    // The texts in front, to which nothing is added any more.
+    front: Vec<String>,
     pub(crate) text: String,
     remark: String,
     // Where the words of each line end.
@@ -22,7 +25,7 @@ fn remark_after<'a>(ends: &[usize], remark: &'a str) -> &'a str
 }
 
 impl Listing {
-    ghost use Rattle.std.specs.Prelude.{◌≡◌, OnOk, string_bytes};
+    ghost use Rattle.std.specs.Prelude.{◌≡◌, IfOk, OnOk, flat_map, string_bytes};
     ghost use Rattle.mrp_advice.specs.Listing.{ended, listed_in, none_listed, with_line, with_listed};
 
     /// No line, with the remark for the first.
@@ -30,6 +33,7 @@ impl Listing {
         ensures { listed_in result ≡ none_listed (string_bytes remark) }
     {
         Listing {
+            front: Vec::new(alloc),
             text: String::new(alloc),
             remark,
             ends: Vec::new(alloc),
@@ -65,21 +69,27 @@ impl Listing {
         self.end()
     }
 
-    // Adds other lines, which are listed without a remark.
+    // Adds other lines, which are listed without a remark. No text is copied.
     pub(crate) fn append(&mut self, others: Listing) -> Result<(), AllocError>
         ensures { OnOk result (listed_in self.new ≡ with_listed (listed_in self.old) (listed_in others)) }
     {
         let mut others = others;
-        self.text.push_str(&others.text)?;
+        let own = mem::replace(&mut self.text, others.text);
+        self.front.push(own)?;
+        self.front.append(&mut others.front)?;
         self.ends.append(&mut others.ends)?;
         Ok(())
     }
 
-    /// The text: each line with a line feed behind it.
-    pub fn into_text(self) -> String
-        ensures { string_bytes result ≡ (listed_in self).text }
+    /// The texts that one behind the other are all lines, each with a line feed behind it.
+    ///
+    /// Errors: `AllocError` if an allocation fails.
+    pub fn into_texts(self) -> Result<Vec<String>, AllocError>
+        ensures { IfOk result (λ texts. flat_map string_bytes texts.items ≡ (listed_in self).text) }
     {
-        let Listing { text: lines, .. } = self;
-        lines
+        let Listing { front, text, .. } = self;
+        let mut texts = front;
+        texts.push(text)?;
+        Ok(texts)
     }
 }

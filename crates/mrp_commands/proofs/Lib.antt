@@ -1,1 +1,2 @@
 pub mod PageEnds
+mod TextsTaken

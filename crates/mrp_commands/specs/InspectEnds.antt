@@ -1,5 +1,5 @@
 -- How an inspection ends (profile).
-use Rattle.std.specs.Prelude.{ℕ, ◌≡◌, Bool, true, false, List, Option, Some, None, Result, Ok, Err, IfOk, string_bytes}
+use Rattle.std.specs.Prelude.{ℕ, ◌≡◌, Bool, true, false, List, Option, Some, None, Result, Ok, Err, IfOk, flat_map, string_bytes}
 use Rattle.mrp_qty.specs.declared.memory.NoMemory.{NoMemory as Refused}
 use Rattle.mrp_rows.specs.declared.told.Told.{Told}
 use Rattle.mrp_rows.specs.declared.streams.ReadFault.{ReadFault}
@@ -22,7 +22,7 @@ inspected_end false = Done
 
 -- what is told of files is written; or nothing, where memory ran out
 abbrev pub TellsInspected : {W : Type 0} → (W → Option (List ℕ)) → Told W → Told W → Result Inspected Refused → Ending → Type 0
-TellsInspected contents output written (Ok inspected) end = Says contents output written (string_bytes inspected.text) (inspected_end inspected.has_faults) end
+TellsInspected contents output written (Ok inspected) end = Says contents output written (flat_map string_bytes inspected.texts.items) (inspected_end inspected.has_faults) end
 TellsInspected contents output written (Err f) end = (end ≡ NoMemory) × (written ≡ output)
 
 -- how an inspection ends, by what was found in the folder

@@ -1,13 +1,15 @@
 //! Inspecting the tables of a folder, as the words of the command line ask.
 
-ghost use Rattle.std.specs.Prelude.{◌≡◌, option_map, string_bytes};
+ghost use Rattle.std.specs.Prelude.{◌≡◌, OnErr, OnOk, flat_map, option_map, string_bytes};
+ghost use Rattle.mrp_report.specs.Written.{HasGivenUp, HasTakenFront};
+ghost use Rattle.mrp_report.specs.Taken.{HasTakenAll};
 ghost use Rattle.mrp_commands.specs.Telling.{Says};
 ghost use Rattle.mrp_commands.specs.InspectEnds.{InspectEnds, InspectEndsIn, TellsInspected, inspected_end};
 
 use crate::ending::{Ending, write_whole};
 use mrp_inspect::{Inspected, find_files, inspect};
 use mrp_qty::NoMemory;
-use mrp_rows::Told;
+use mrp_rows::{Told, WRITE_TRIES, WriteFault};
 use mrp_words::FileStore;
 use std::alloc::Global;
 use std::io::Write;
@@ -24,11 +26,23 @@ fn inspected_end(has_faults: bool) -> Ending
     }
 }
 
+// Writes texts, one behind the other.
+fn write_texts<W: Write>(output: &mut Told<W>, texts: &[String]) -> Result<(), WriteFault>
+    ensures whole { OnOk result (HasTakenAll W.contents output.old output.new (flat_map string_bytes texts.now)) }
+    ensures front { OnErr result (HasTakenFront W.contents output.old output.new (flat_map string_bytes texts.now)) }
+    ensures gave_up { OnErr result (HasGivenUp output.old output.new WRITE_TRIES) }
+{
+    for text in texts {
+        write_whole(output, text.as_bytes())?;
+    }
+    Ok(())
+}
+
 // Writes what is told of files.
 fn write_inspected<W: Write>(inspected: &Inspected, output: &mut Told<W>) -> Ending
-    ensures { Says W.contents output.old output.new (string_bytes inspected.now.text) (inspected_end inspected.now.has_faults) result }
+    ensures { Says W.contents output.old output.new (flat_map string_bytes inspected.now.texts.items) (inspected_end inspected.now.has_faults) result }
 {
-    match write_whole(output, inspected.text.as_bytes()) {
+    match write_texts(output, inspected.texts.as_slice()) {
         Ok(()) => inspected_end(inspected.has_faults),
         Err(_) => Ending::Write,
     }

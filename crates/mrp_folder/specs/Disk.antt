@@ -1,6 +1,11 @@
 -- What contracts see of a folder of the operating system: nothing of its files (profile).
 use Rattle.std.specs.Prelude.{ℕ, List}
 use Rattle.mrp_folder.specs.declared.disk.DiskFolder.{DiskFolder}
+use Rattle.mrp_folder.specs.declared.disk.DiskPart.{DiskPart}
+
+-- the file itself
+abbrev pub file_of : {F : Type 0} → DiskPart F → F
+file_of part = part.file
 
 -- how many of its calls failed
 abbrev pub failures_told : {R : Type 0} → DiskFolder R → ℕ

@@ -23,3 +23,7 @@ MayAdd name text old new = (new ≡ old) ⊎ Adds name text old new
 abbrev pub Fails : {P : Type 0} → ℕ → ℕ → KeepFault P → Type 0
 Fails old new fault.Folder = HasRisenBy 1 old new
 Fails old new (fault.Part part) = HasRisenBy 1 0 (failures_of part) ⊎ HasRisenBy (WRITE_TRIES + 1) 0 (interrupted_of part)
+
+-- for one of these reasons a text was not put into a folder
+abbrev pub FailsToKeep : (P : Type 0) → ℕ → ℕ → Type 0
+FailsToKeep P old new = (why : KeepFault P) × Fails old new why

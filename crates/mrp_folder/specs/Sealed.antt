@@ -43,3 +43,4 @@ pub record KeepsSeal {S D : Type 0} (old new : SealedJournal S D) : Type 0 where
   pub text : KeepsText old new
   pub folder : folder_of new ≡ folder_of old
   pub sealed : has_seal new ≡ has_seal old
+  pub failures : failures_of_sealed new ≡ failures_of_sealed old

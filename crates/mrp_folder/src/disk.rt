@@ -20,7 +20,18 @@ pub struct DiskPart<F> {
 }
 
 impl<F: Write> Write for DiskPart<F> {
-    fn write(&mut self, buf: &[u8]) -> io::Result<usize> {
+    ghost use Rattle.std.specs.Io.{WritesAtMost};
+    ghost use Rattle.std.specs.Io.KnownBytes.{WriteAppends};
+    ghost use Rattle.std.specs.Prelude.{None};
+    ghost use Rattle.mrp_folder.specs.Disk.{file_of};
+
+    fn write(&mut self, buf: &[u8]) -> io::Result<usize>
+        ensures bound { WritesAtMost result buf.now }
+        ensures bytes { WriteAppends None None result buf.now }
+
+        // Where it is known what the file has, they are behind that.
+        ensures written { WriteAppends (F.contents (file_of self.old)) (F.contents (file_of self.new)) result buf.now }
+    {
         self.file.write(buf)
     }
 

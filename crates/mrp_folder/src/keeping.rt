@@ -56,6 +56,7 @@ pub fn keep_text<D: Folder>(
     name: &str,
 ) -> Result<(), KeepFault<D::Part>>
     ensures added { OnOk result (Adds name.now text.now (D.named folder.old) (D.named folder.new)) }
+    ensures sound { OnOk result (D.failures folder.new ≡ D.failures folder.old) }
     ensures either { OnErr result (MayAdd name.now text.now (D.named folder.old) (D.named folder.new)) }
     ensures failed { IfErr result (Fails (D.failures folder.old) (D.failures folder.new)) }
 {

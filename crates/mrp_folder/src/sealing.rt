@@ -20,6 +20,7 @@ pub struct SealedJournal<'a, S, D> {
 
 impl<'a, S: Store, D: Folder> SealedJournal<'a, S, D> {
     ghost use Rattle.std.specs.Prelude.{◌≡◌, ◌≢◌, true, OnErr, OnOk};
+    ghost use Rattle.mrp_folder.specs.Kept.{FailsToKeep};
     ghost use Rattle.mrp_folder.specs.Named.{TellsFailure};
     ghost use Rattle.mrp_folder.specs.Sealed.{IsThere, KeepsText, failures_of_sealed, folder_of, has_seal, journal_of, name_of, text_of};
 
@@ -61,11 +62,12 @@ impl<'a, S: Store, D: Folder> SealedJournal<'a, S, D> {
         ensures text { KeepsText self.old self.new }
         ensures there { OnOk result (IsThere (text_of self.old) (name_of self.old) (D.named (folder_of self.old)) (D.named (folder_of self.new)) (D.lasting (folder_of self.new))) }
         ensures failures { failures_of_sealed self.new ≡ failures_of_sealed self.old }
+        ensures failed { OnErr result (FailsToKeep D.Part (D.failures (folder_of self.old)) (D.failures (folder_of self.new))) }
     {
-        if keep_text(&mut self.folder, self.text, self.name).is_err() {
-            return Err(WriteFault);
+        match keep_text(&mut self.folder, self.text, self.name) {
+            Ok(()) => self.folder.settle(),
+            Err(_) => Err(WriteFault),
         }
-        self.folder.settle()
     }
 
     // Puts the text into the folder, if it is not there yet.
@@ -75,6 +77,7 @@ impl<'a, S: Store, D: Folder> SealedJournal<'a, S, D> {
         ensures sealed { OnOk result (has_seal self.new ≡ true) }
         ensures unsealed { OnErr result (has_seal self.new ≢ true) }
         ensures there { OnOk result (has_seal self.old ≢ true → IsThere (text_of self.old) (name_of self.old) (D.named (folder_of self.old)) (D.named (folder_of self.new)) (D.lasting (folder_of self.new))) }
+        ensures failed { OnErr result (FailsToKeep D.Part (D.failures (folder_of self.old)) (D.failures (folder_of self.new))) }
         ensures told { TellsFailure (failures_of_sealed self.old) (failures_of_sealed self.new) result }
     {
         if self.is_sealed {
@@ -95,7 +98,9 @@ impl<'a, S: Store, D: Folder> SealedJournal<'a, S, D> {
 
 impl<'a, S: Store, D: Folder> Store for SealedJournal<'a, S, D> {
     ghost use Rattle.std.specs.Prelude.{◌≡◌, ◌⊎◌, ◌+◌, true, ◌≤◌, IfSome, OnErr, OnOk, length, option_map};
+    ghost use Rattle.mrp_rows.specs.Told.{HasRisenBy};
     ghost use Rattle.mrp_journal.specs.Held.{AppendsFront, TellsFailure, appended, cut_to, half_cut, synced};
+    ghost use Rattle.mrp_folder.specs.Kept.{FailsToKeep};
     ghost use Rattle.mrp_folder.specs.Sealed.{IsThere, KeepsSeal, KeepsText, failures_of_sealed, folder_of, has_seal, journal_of, name_of, text_of};
 
     ghost held = { λ sealed. S.held (journal_of sealed) };
@@ -108,6 +113,10 @@ impl<'a, S: Store, D: Folder> Store for SealedJournal<'a, S, D> {
         ensures told { TellsFailure (failures_of_sealed self.old + S.failures (journal_of self.old)) (failures_of_sealed self.new + S.failures (journal_of self.new)) result }
         ensures once { OnOk result (has_seal self.new ≡ true) }
         ensures text { KeepsText self.old self.new }
+
+        // It fails only where the folder does, or the writes of the text's file, or the journal.
+        ensures failed { OnErr result (FailsToKeep D.Part (D.failures (folder_of self.old)) (D.failures (folder_of self.new))
+            ⊎ HasRisenBy 1 (S.failures (journal_of self.old)) (S.failures (journal_of self.new))) }
 
         // Nothing is appended before the text is there, durable with its name.
         ensures sealed { (has_seal self.old ≡ true) ⊎ (S.held (journal_of self.new) ≡ S.held (journal_of self.old))

@@ -22,7 +22,7 @@ pub maps-more : {A B C : Type 0} (g : C → B) (f : A → B) (xs : List A) (k : 
 maps-more {A} {B} {C} g f xs k d now more y within grown is so_far =
     map-more f xs k d (map g now) (map g more) (g y) within (ap (map g) grown ∙ map-append g now (y ∷ [])) is so_far
 
-filter_map-one : {A B : Type 0} (f : A → Option B) (x : A) → filter_map f (x ∷ []) ≡ option_to_list (f x)
+pub filter_map-one : {A B : Type 0} (f : A → Option B) (x : A) → filter_map f (x ∷ []) ≡ option_to_list (f x)
 filter_map-one {A} {B} f x = by (f x)
   where
     by : (o : Option B) → filter_map (λ (y : A). o) (x ∷ []) ≡ option_to_list o

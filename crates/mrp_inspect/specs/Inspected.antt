@@ -1,5 +1,5 @@
 -- What is told of a folder's files (profile).
-use Rattle.std.specs.Prelude.{ℕ, Bool, true, false, ◌≡◌, ◌≢◌, List, Option, Result, Ok, Err, String, string_bytes}
+use Rattle.std.specs.Prelude.{ℕ, Bool, true, false, ◌≡◌, ◌≢◌, List, ◌∷◌, Option, Result, Ok, Err, String, flat_map, string_bytes}
 use Rattle.std.specs.declared.alloc.Global.{Global}
 use Rattle.mrp_rows.specs.Joined.{joined}
 use Rattle.mrp_rows.specs.declared.fault.Fault.{Fault}
@@ -14,9 +14,9 @@ use Rattle.mrp_survey.specs.Survey.{calendar_among, form_of, items_among, names_
 use Rattle.mrp_survey.specs.Surveyed.{Surveyed}
 use Rattle.mrp_inspect.specs.declared.found.Found.{Found}
 use Rattle.mrp_inspect.specs.declared.inspecting.Inspected.{Inspected}
-use Rattle.mrp_inspect.specs.Faults.{lines_of}
+use Rattle.mrp_inspect.specs.Faults.{FaultLine, lines_found, texts_of}
 use Rattle.mrp_inspect.specs.Found.{parts_of}
-use Rattle.mrp_inspect.specs.Listed.{faults_text}
+use Rattle.mrp_inspect.specs.Listed.{led_by, listed}
 use Rattle.mrp_inspect.specs.Pieces.{pieces_of}
 use Rattle.mrp_inspect.specs.Strays.{AreSources}
 use Rattle.mrp_inspect.specs.Warned.{WarnsOf}
@@ -43,13 +43,21 @@ abbrev pub WarnsIfOpened : List ℕ → List (Option Source) → Result (String 
 WarnsIfOpened bundle sources (Ok text) = WarnsOf bundle sources (string_bytes text)
 WarnsIfOpened bundle sources (Err why) = Opens bundle (Err why)
 
--- the text of all faults, with this one behind the first
+-- the text of all faults: the first line tells this one, by its number, its table and its record, and has its text behind it
 pub record IsFaultsText (found : Found) (sources : List (Option Source)) (fault : Fault) (text : List ℕ) : Type 0 where
   pub survey : Surveyed
   pub surveys : IsSurveyOf sources survey
-  pub text_is : text ≡ faults_text (lines_of found survey) fault
+  pub first : FaultLine
+  pub others : List FaultLine
+  pub lines : first ∷ others ≡ led_by fault (lines_found found survey)
+  pub first_tells : first.fault ≡ fault
+  pub text_is : text ≡ listed first.text (texts_of others) fault
 
--- the faults of a shop: `mrp plan` refuses its tables for this fault, which is told behind the first line
+-- the same, by a survey of the texts from which the tables are read
+abbrev pub LeadsWith : Found → Fault → List ℕ → Type 0
+LeadsWith found fault text = (sources : List (Option Source)) × AreSourcesIn found sources × IsFaultsText found sources fault text
+
+-- the faults of a shop: `mrp plan` refuses its tables for this fault, which the first line tells
 pub record TellsFaults (bundle : List ℕ) (found : Found) (sources : List (Option Source)) (text : List ℕ) : Type 0 where
   pub fault : Fault
   pub refused : IsRefused bundle fault
@@ -62,4 +70,4 @@ Tells false bundle found sources text = WarnsOf bundle sources text
 
 -- faults are told, or where `mrp plan` accepts the tables, warnings
 abbrev pub Inspects : Found → Inspected → Type 0
-Inspects found result = (sources : List (Option Source)) × AreSourcesIn found sources × Tells result.has_faults (bundle_in found) found sources (string_bytes result.text)
+Inspects found result = (sources : List (Option Source)) × AreSourcesIn found sources × Tells result.has_faults (bundle_in found) found sources (flat_map string_bytes result.texts.items)

@@ -1,6 +1,7 @@
 pub mod Faults
 pub mod Found
 pub mod Inspected
+pub mod LineFaults
 pub mod Lines
 pub mod Listed
 pub mod Names

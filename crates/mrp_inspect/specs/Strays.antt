@@ -38,7 +38,7 @@ stray piece reason = record { file = piece.file; number = piece.line; text = unw
 
 -- why a line is told whose table an earlier piece begins
 abbrev pub repeated : Bool → Table → FilePiece → Reason
-repeated filed table first = if filed then reason.OfFile table else reason.Again first.file first.line
+repeated filed table first = if filed then reason.OfFile table else reason.Again table first.file first.line
 
 -- what is told of a piece whose table an earlier one begins: the earlier line, where the piece is a file's front
 abbrev pub told_again : List FilePiece → Table → FilePiece → FilePiece → StrayLine
@@ -52,7 +52,7 @@ again pieces place table piece None = None
 -- what is told of the piece at a place
 abbrev pub told_of : List FilePiece → ℕ → FilePiece → Option Table → Option StrayLine
 told_of pieces place piece (Some table) = again pieces place table piece (first_among (firsts_of pieces) table)
-told_of pieces place piece None = Some (stray piece reason.NoTable)
+told_of pieces place piece None = Some (stray piece (reason.NoTable place))
 
 -- what is told of the remaining pieces
 unfoldable pub strays_from : List FilePiece → ℕ → List FilePiece → List StrayLine

@@ -1,25 +1,23 @@
 -- Faults of files and of section lines, in words (profile).
-use Rattle.std.specs.Prelude.{ℕ, List, [], ◌++◌, codes, decimal, filter_map, map, Option, Some, None}
+use Rattle.std.specs.Prelude.{ℕ, List, [], ◌++◌, codes, decimal, Option, Some, None}
 use Rattle.std.specs.List.{slice_index_or}
 use Rattle.mrp_rows.specs.FaultText.{table_name}
 use Rattle.mrp_rows.specs.Tables.{table_index}
 use Rattle.mrp_rows.specs.declared.fault.Table.{Table}
 use Rattle.mrp_advice.specs.Shown.{shown}
-use Rattle.mrp_words.specs.Folder.{all_tables}
 use Rattle.mrp_inspect.specs.declared.found.PathKind.{PathKind}
 use Rattle.mrp_inspect.specs.declared.found.PathKind.TheVariants.{Absent, File, Folder}
 use Rattle.mrp_inspect.specs.declared.names.Naming.{Naming}
 use Rattle.mrp_inspect.specs.declared.stray.Reason.{Reason}
 use Rattle.mrp_inspect.specs.declared.stray.Reason.TheVariants.{Again, NoTable, OfFile}
 use Rattle.mrp_inspect.specs.Names.{other_name}
-use Rattle.mrp_inspect.specs.Pieces.{FilePiece}
-use Rattle.mrp_inspect.specs.Strays.{StrayLine, first_among, firsts_of, strays_of}
+use Rattle.mrp_inspect.specs.Strays.{StrayLine, first_among}
 
 -- why a line is told
 abbrev pub reason_words : Reason → List ℕ
-reason_words NoTable = codes " begins with [, which begins a section"
+reason_words (NoTable place) = codes " begins with [, which begins a section"
 reason_words (OfFile table) = codes " begins the table of " ++ (table_name table ++ codes ".csv")
-reason_words (Again file line) = codes " begins a table that begins in line " ++ (decimal line ++ (codes " of " ++ (table_name file ++ codes ".csv")))
+reason_words (Again table file line) = codes " begins a table that begins in line " ++ (decimal line ++ (codes " of " ++ (table_name file ++ codes ".csv")))
 
 -- a line that begins with a bracket
 abbrev pub stray_text : StrayLine → List ℕ
@@ -53,7 +51,3 @@ path_words Folder = codes "none of the nine tables is there"
 abbrev pub path_text : PathKind → List ℕ
 path_text path_kind =
     codes ".:0: folder: " ++ (path_words path_kind ++ codes "; expected a folder with calendar.csv, items.csv, centres.csv, stock.csv, receipts.csv, bills.csv, routings.csv, master.csv, script.csv")
-
--- the lines of what is wrong with files
-abbrev pub file_lines : List FilePiece → List (Option Naming) → List (List ℕ)
-file_lines pieces others = map stray_text (strays_of pieces) ++ filter_map (missing_of (firsts_of pieces) others) all_tables

@@ -1,6 +1,6 @@
 //! Cutting files into pieces.
 
-ghost use Rattle.std.specs.Prelude.{◌≡◌, ◌≤◌, ◌<◌, ◌∷◌, ◌||◌, ◌==◌, ◌-◌, ◌+◌, ◌++◌, ◌^◌, [], IfOk, OnOk, Some, flat_map, length, take, drop, position, slice_index};
+ghost use Rattle.std.specs.Prelude.{◌≡◌, ◌≢◌, ◌≤◌, ◌<◌, ◌∷◌, ◌||◌, ◌==◌, ◌-◌, ◌+◌, ◌++◌, ◌^◌, [], ℕ, IfOk, OnOk, Some, flat_map, length, take, drop, position, slice_index};
 ghost use Rattle.mrp_rows.specs.Bundle.{ends_line, lines_of, line_text, sections_in};
 ghost use Rattle.mrp_rows.specs.Placing.{IsAtSection};
 ghost use Rattle.mrp_inspect.specs.Lines.{counted_all};
@@ -8,6 +8,7 @@ ghost use Rattle.mrp_inspect.specs.Pieces.{piece_from, pieces_behind, pieces_in}
 
 use crate::lines::Counter;
 use crate::piece::Piece;
+use memchr::memchr;
 use mrp_qty::NoMemory;
 use mrp_rows::{Table, is_line_end};
 use std::alloc::Global;
@@ -20,6 +21,21 @@ fn begins_line(bytes: &[u8], at: usize) -> bool
     at == 0 || is_line_end(bytes[at - 1])
 }
 
+// The place of the first bracket from a place on, or the length where there is none.
+fn bracket_from(bytes: &[u8], from: usize) -> usize
+    requires { from ≤ length bytes.now }
+    ensures low { from ≤ result }
+    ensures within { result ≤ length bytes.now }
+    ensures bracket { result < length bytes.now → slice_index bytes.now result ≡ 91 }
+    ensures none { (k : ℕ) → from ≤ k → k < result → slice_index bytes.now k ≢ 91 }
+{
+    let (_, rest) = bytes.split_at(from);
+    match memchr(b'[', rest) {
+        Some(gap) => from + gap,
+        None => bytes.len(),
+    }
+}
+
 // The length of the text before the first line that begins with a bracket.
 fn before_section(bytes: &[u8]) -> usize
     ensures within { result ≤ length bytes.now }
@@ -27,12 +43,14 @@ fn before_section(bytes: &[u8]) -> usize
     ensures sections { (sections_in bytes.now).1 ≡ (sections_in (drop result bytes.now)).1 }
     ensures front { result < length bytes.now → slice_index bytes.now result ≡ 91 }
 {
-    for (at, byte) in bytes.iter().enumerate() {
-        if *byte == b'[' && begins_line(bytes, at) {
+    let mut at = bracket_from(bytes, 0);
+    while at < bytes.len() {
+        if begins_line(bytes, at) {
             return at;
         }
+        at = bracket_from(bytes, at + 1);
     }
-    bytes.len()
+    at
 }
 
 // The length of the first line, with the byte that ends it.

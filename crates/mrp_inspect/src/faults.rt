@@ -1,8 +1,9 @@
-//! All faults as a text.
+//! All faults as texts.
 
-ghost use Rattle.std.specs.Prelude.{◌≡◌, IfOk, OnOk, string_bytes};
-ghost use Rattle.mrp_advice.specs.Listing.{listed_in, with_line};
-ghost use Rattle.mrp_inspect.specs.Listed.{count_text, remark_text, some_told, told_text, untold};
+ghost use Rattle.std.specs.Prelude.{◌≡◌, IfOk, OnOk, flat_map, string_bytes};
+ghost use Rattle.mrp_advice.specs.Listing.{listed_in, with_lines};
+ghost use Rattle.mrp_inspect.specs.Faults.{texts_of};
+ghost use Rattle.mrp_inspect.specs.Listed.{count_text, remark_text, told_text, unless_told, untold};
 
 use mrp_advice::{Listing, plural};
 use mrp_qty::NoMemory;
@@ -25,41 +26,37 @@ pub(crate) fn remark_text(alloc: Global, fault: &Fault) -> Result<String, NoMemo
     Ok(format!(in alloc; " (refused: {said})")?)
 }
 
-// A fault of which no line tells.
+// A line that says only that there is a fault.
 fn untold(alloc: Global, fault: &Fault) -> Result<String, AllocError>
-    ensures { IfOk result (λ text. string_bytes text ≡ untold fault.now) }
+    ensures { IfOk result (λ text. string_bytes text ≡ (untold fault.now).text) }
 {
     let table = fault.table.name();
     format!(in alloc; "{table}.csv:0: row: a fault; expected none")
 }
 
-// Adds the line of such a fault.
-fn push_untold(alloc: Global, fault: &Fault, lines: &mut Listing) -> Result<(), NoMemory>
-    ensures { OnOk result (listed_in lines.new ≡ with_line (listed_in lines.old) (untold fault.now)) }
+// Adds this line, unless the fault is told.
+#[tactic(auto, using(mrp_advice::proofs::Listings::no_lines, mrp_advice::proofs::Listings::one_line))]
+pub(crate) fn push_unless_told(
+    alloc: Global,
+    told: bool,
+    fault: &Fault,
+    lines: &mut Listing,
+) -> Result<(), NoMemory>
+    ensures { OnOk result (listed_in lines.new ≡ with_lines (listed_in lines.old) (texts_of (unless_told told fault.now))) }
 {
-    let line = untold(alloc, fault)?;
-    lines.push(line.as_str())?;
+    if !told {
+        let line = untold(alloc, fault)?;
+        lines.push(line.as_str())?;
+    }
     Ok(())
 }
 
-// Lines; where there is none, one that says only that there is a fault.
-fn some_told(alloc: Global, lines: Listing, fault: &Fault) -> Result<Listing, NoMemory>
-    ensures { IfOk result (λ own. listed_in own ≡ some_told (listed_in lines) fault.now) }
+// The texts that one behind the other are all lines, and how many they are.
+pub(crate) fn told_texts(alloc: Global, lines: Listing) -> Result<Vec<String>, NoMemory>
+    ensures { IfOk result (λ texts. flat_map string_bytes texts.items ≡ told_text (listed_in lines)) }
 {
-    let mut own = lines;
-    if own.count() == 0 {
-        push_untold(alloc, fault, &mut own)?;
-    }
-    Ok(own)
-}
-
-// The text of all lines, and how many they are.
-pub(crate) fn told_text(alloc: Global, lines: Listing, fault: &Fault) -> Result<String, NoMemory>
-    ensures { IfOk result (λ text. string_bytes text ≡ told_text (listed_in lines) fault.now) }
-{
-    let own = some_told(alloc, lines, fault)?;
-    let count = count_text(alloc, own.count() as u128)?;
-    let mut text = own.into_text();
-    text.push_str(count.as_str())?;
-    Ok(text)
+    let count = count_text(alloc, lines.count() as u128)?;
+    let mut texts = lines.into_texts()?;
+    texts.push(count)?;
+    Ok(texts)
 }

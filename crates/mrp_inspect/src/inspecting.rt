@@ -1,12 +1,12 @@
 //! Telling what is wrong with the tables of a folder, or what is odd.
 
-ghost use Rattle.std.specs.Prelude.{◌≡◌, ◌++◌, ◌∷◌, [], ℕ, IfOk, List, OnOk, Option, filter_map, map, string_bytes};
+ghost use Rattle.std.specs.Prelude.{◌≡◌, ◌++◌, ◌∷◌, [], ℕ, IfOk, List, OnOk, Option, filter_map, flat_map, map, string_bytes};
 ghost use Rattle.mrp_script.specs.Opened.{Opens};
 ghost use Rattle.mrp_survey.specs.declared.source.Source.{Source};
 ghost use Rattle.mrp_advice.specs.Lines.{survey_lines};
 ghost use Rattle.mrp_advice.specs.Listing.{listed_in, with_lines};
 ghost use Rattle.mrp_words.specs.Folder.{all_tables};
-ghost use Rattle.mrp_inspect.specs.Faults.{lines_if, lines_of};
+ghost use Rattle.mrp_inspect.specs.Faults.{lines_found, lines_if, texts_of};
 ghost use Rattle.mrp_inspect.specs.Found.{parts_of};
 ghost use Rattle.mrp_inspect.specs.Inspected.{Inspects, IsFaultsText, IsSurveyOf, Tells, WarnsIfOpened, bundle_in};
 ghost use Rattle.mrp_inspect.specs.Words.{path_text, missing_of, stray_text};
@@ -15,7 +15,8 @@ ghost use Rattle.mrp_inspect.specs.Strays.{firsts_of, strays_of};
 
 use crate::contents::contents_of;
 use crate::cut::cut_files;
-use crate::faults::{remark_text, told_text};
+use crate::faults::{push_unless_told, remark_text, told_texts};
+use crate::first::tells_first;
 use crate::found::{Found, PathKind, is_bare};
 use crate::names::Naming;
 use crate::piece::Piece;
@@ -36,8 +37,8 @@ use std::{mem, thread};
 /// What is told of a folder's files.
 #[derive(Drop)]
 pub struct Inspected {
-    /// A line for each fault, or where there is none for each warning, and how many there are.
-    pub text: String,
+    /// Texts that one behind the other are a line for each fault, or where there is none for each warning, and how many there are.
+    pub texts: Vec<String>,
     /// Whether faults are told.
     pub has_faults: bool,
 }
@@ -54,7 +55,7 @@ fn push_bare(alloc: Global, path_kind: PathKind, lines: &mut Listing) -> Result<
 
 // Adds the lines of what is wrong with files, and then with their records.
 fn push_all(
-    rt: &impl Threads,
+    rt: &(impl Threads + Sync),
     alloc: Global,
     firsts: &[Option<usize>],
     strays: &[Stray<'_>],
@@ -70,7 +71,7 @@ fn push_all(
 
 // Adds the line of a folder that has none of the tables, or those of all faults.
 fn push_if(
-    rt: &impl Threads,
+    rt: &(impl Threads + Sync),
     alloc: Global,
     bare: bool,
     path_kind: PathKind,
@@ -80,7 +81,7 @@ fn push_if(
     survey: &Survey,
     lines: &mut Listing,
 ) -> Result<(), NoMemory>
-    ensures { OnOk result (listed_in lines.new ≡ with_lines (listed_in lines.old) (lines_if bare path_kind (map stray_text strays.now ++ filter_map (missing_of firsts.now others.now) all_tables) (survey_lines survey.now))) }
+    ensures { OnOk result (listed_in lines.new ≡ with_lines (listed_in lines.old) (lines_if bare (path_text path_kind) (map stray_text strays.now ++ filter_map (missing_of firsts.now others.now) all_tables) (survey_lines survey.now))) }
 {
     if bare {
         push_bare(alloc, path_kind, lines)
@@ -91,7 +92,7 @@ fn push_if(
 
 // Adds the lines of all faults.
 fn push_told(
-    rt: &impl Threads,
+    rt: &(impl Threads + Sync),
     alloc: Global,
     found: &Found,
     firsts: &[Option<usize>],
@@ -101,7 +102,7 @@ fn push_told(
 ) -> Result<(), NoMemory>
     requires firsts { firsts.now ≡ firsts_of (pieces_of (parts_of found.now)) }
     requires strays { strays.now ≡ strays_of (pieces_of (parts_of found.now)) }
-    ensures { OnOk result (listed_in lines.new ≡ with_lines (listed_in lines.old) (lines_of found.now survey.now)) }
+    ensures { OnOk result (listed_in lines.new ≡ with_lines (listed_in lines.old) (texts_of (lines_found found.now survey.now))) }
 {
     let bare = is_bare(found);
     let others = found.others.as_slice();
@@ -118,24 +119,27 @@ fn push_told(
     )
 }
 
-// The faults of tables that are refused, by a survey of their texts.
+// The faults of tables that are refused, by a survey of their texts. No case is known in which the first line of the survey tells
+// another than the fault for which they are refused; then a line more would stand in front of it.
 fn faults_of(
-    rt: &impl Threads,
+    rt: &(impl Threads + Sync),
     alloc: Global,
     found: &Found,
     firsts: &[Option<usize>],
     strays: &[Stray<'_>],
     survey: &Survey,
     fault: &Fault,
-) -> Result<String, NoMemory>
+) -> Result<Vec<String>, NoMemory>
     requires firsts { firsts.now ≡ firsts_of (pieces_of (parts_of found.now)) }
     requires strays { strays.now ≡ strays_of (pieces_of (parts_of found.now)) }
-    ensures { (sources : List (Option Source)) → IsSurveyOf sources survey.now → IfOk result (λ text. IsFaultsText found.now sources fault.now (string_bytes text)) }
+    ensures { (sources : List (Option Source)) → IsSurveyOf sources survey.now → IfOk result (λ texts. IsFaultsText found.now sources fault.now (flat_map string_bytes texts.items)) }
 {
     let remark = remark_text(alloc, fault)?;
     let mut lines = Listing::new(alloc, remark);
+    let told = tells_first(found, firsts, strays, survey, fault);
+    push_unless_told(alloc, told, fault, &mut lines)?;
     push_told(rt, alloc, found, firsts, strays, survey, &mut lines)?;
-    told_text(alloc, lines, fault)
+    told_texts(alloc, lines)
 }
 
 // A survey of the texts of tables.
@@ -189,7 +193,7 @@ fn survey_and_open(
 
 // What is told where tables are refused, with a survey of their texts.
 fn inspect_refused(
-    rt: &impl Threads,
+    rt: &(impl Threads + Sync),
     alloc: Global,
     found: &Found,
     firsts: &[Option<usize>],
@@ -200,18 +204,25 @@ fn inspect_refused(
     requires firsts { firsts.now ≡ firsts_of (pieces_of (parts_of found.now)) }
     requires strays { strays.now ≡ strays_of (pieces_of (parts_of found.now)) }
     ensures { (bundle : List ℕ) (sources : List (Option Source)) → Opens bundle (Err why) → IsSurveyOf sources survey.now
-        → IfOk result (λ inspected. Tells inspected.has_faults bundle found.now sources (string_bytes inspected.text)) }
+        → IfOk result (λ inspected. Tells inspected.has_faults bundle found.now sources (flat_map string_bytes inspected.texts.items)) }
 {
     match why {
         OpenFault::Refused(fault) => {
             let told = faults_of(rt, alloc, found, firsts, strays, survey, &fault)?;
             Ok(Inspected {
-                text: told,
+                texts: told,
                 has_faults: true,
             })
         }
         OpenFault::NoMemory => Err(NoMemory),
     }
+}
+
+fn texts_of_one(alloc: Global, text: String) -> Result<Vec<String>, NoMemory>
+    ensures { IfOk result (λ texts. flat_map string_bytes texts.items ≡ string_bytes text) }
+{
+    let texts = vec![in alloc; text]?;
+    Ok(texts)
 }
 
 // What is told where tables are accepted, or refused.
@@ -226,15 +237,18 @@ fn inspect_sources(
 ) -> Result<Inspected, NoMemory>
     requires firsts { firsts.now ≡ firsts_of (pieces_of (parts_of found.now)) }
     requires strays { strays.now ≡ strays_of (pieces_of (parts_of found.now)) }
-    ensures { IfOk result (λ inspected. Tells inspected.has_faults bundle.now found.now sources.now (string_bytes inspected.text)) }
+    ensures { IfOk result (λ inspected. Tells inspected.has_faults bundle.now found.now sources.now (flat_map string_bytes inspected.texts.items)) }
 {
     let (surveyed, opened) = survey_and_open(rt, alloc, bundle, sources);
     let survey = surveyed?;
     match opened {
-        Ok(text) => Ok(Inspected {
-            text,
-            has_faults: false,
-        }),
+        Ok(text) => {
+            let texts = texts_of_one(alloc, text)?;
+            Ok(Inspected {
+                texts,
+                has_faults: false,
+            })
+        }
         Err(why) => {
             let told = inspect_refused(rt, alloc, found, firsts, strays, &survey, why);
             // Of each record with a fault it has a copy, and the program ends soon.
@@ -271,11 +285,11 @@ fn inspect_pieces(
 }
 
 /// Inspects the files of a folder: reads the tables as planning them does, and where they are refused tells
-/// all faults, each with its file, line and column, with what planning says behind the first; where they are
-/// accepted tells warnings of what is odd. Nothing is planned.
+/// all faults, each with its file, line and column; the first is the fault that planning tells, with its words behind it. Where they are
+/// accepted, it tells warnings of what is odd. Nothing is planned.
 ///
-/// Tables are read and at the same time surveyed, in up to five threads, as many as can be started. The memory of a survey that is
-/// told is not given back.
+/// Tables are read and at the same time surveyed, in several threads, as many as can be started. The memory of a survey that is told is
+/// not given back.
 ///
 /// Errors: `NoMemory` if an allocation fails.
 pub fn inspect(

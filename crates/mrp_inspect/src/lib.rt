@@ -4,9 +4,11 @@
 mod contents;
 mod cut;
 mod faults;
+mod first;
 mod found;
 mod inspecting;
 pub mod laws;
+mod line_fault;
 mod lines;
 mod names;
 mod piece;

@@ -28,12 +28,18 @@ pub(crate) const TABLES: [Table; 9] = [
 // Why a line is told.
 #[derive(Clone, Copy)]
 pub(crate) enum Reason {
-    // It names no table.
-    NoTable,
+    // It names no table; with the place of the piece that it begins.
+    NoTable {
+        place: usize,
+    },
     // It names a table that has a file.
     OfFile(Table),
     // It names a table that an earlier line of this file begins.
-    Again { file: Table, line: u64 },
+    Again {
+        table: Table,
+        file: Table,
+        line: u64,
+    },
 }
 
 // A line that is told.
@@ -109,6 +115,7 @@ fn repeated(filed: bool, table: Table, first: &Piece<'_>) -> Reason
         Reason::OfFile(table)
     } else {
         Reason::Again {
+            table,
             file: first.file(),
             line: first.line,
         }
@@ -142,7 +149,7 @@ fn told_of<'a>(
     ensures { result ≡ spec.told_of pieces.now place piece.now piece.now.begins }
 {
     let Some(table) = piece.begins else {
-        return Some(stray_at(piece, Reason::NoTable));
+        return Some(stray_at(piece, Reason::NoTable { place }));
     };
     let first = first_among(firsts, table)?;
     if first == place {

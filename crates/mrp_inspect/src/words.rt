@@ -21,12 +21,12 @@ fn reason_words(alloc: Global, reason: Reason) -> Result<String, AllocError>
     ensures { IfOk result (λ text. string_bytes text ≡ reason_words reason) }
 {
     match reason {
-        Reason::NoTable => String::from_str(alloc, " begins with [, which begins a section"),
+        Reason::NoTable { .. } => String::from_str(alloc, " begins with [, which begins a section"),
         Reason::OfFile(table) => {
             let table = table.name();
             format!(in alloc; " begins the table of {table}.csv")
         }
-        Reason::Again { file, line } => {
+        Reason::Again { file, line, .. } => {
             let file = file.name();
             format!(in alloc; " begins a table that begins in line {line} of {file}.csv")
         }

@@ -36,7 +36,7 @@ whole-is-ended (x ∷ xs) some = by (list_any ends_line (x ∷ xs)) refl (whole-
     by false e more = absurd (some (whole-none (x ∷ xs) e))
 
 -- a byte that ends no line is left
-some-behind : (xs : List ℕ) (y : ℕ) (ys : List ℕ) → ends_line y ≡ false → without_line_ends (xs ++ y ∷ ys) ≢ []
+pub some-behind : (xs : List ℕ) (y : ℕ) (ys : List ℕ) → ends_line y ≡ false → without_line_ends (xs ++ y ∷ ys) ≢ []
 some-behind [] y ys off = λ none. let f : y ∷ ys ≡ [] = sym (lead-off y ys off) ∙ none in cc
 some-behind (x ∷ xs) y ys off = by (ends_line x) refl (some-behind xs y ys off)
   where

@@ -42,11 +42,11 @@ third-mark x e = by (x == 191) refl
     by true is = let same : x ≡ 191 = eqb-true x 191 is in absurd (false≢true (ap ends_line (sym same) ∙ e))
     by false is = is
 
-no-second : (a b c : Bool) → b ≡ false → (a && b && c) ≡ false
+pub no-second : (a b c : Bool) → b ≡ false → (a && b && c) ≡ false
 no-second true b c e = rw e refl
 no-second false b c e = refl
 
-no-third : (a b c : Bool) → c ≡ false → (a && b && c) ≡ false
+pub no-third : (a b c : Bool) → c ≡ false → (a && b && c) ≡ false
 no-third true true c e = e
 no-third true false c e = refl
 no-third false b c e = refl

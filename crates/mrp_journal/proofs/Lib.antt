@@ -7,3 +7,4 @@ pub mod NextRecords
 pub mod RowsBehind
 pub mod SectionLines
 pub mod Beginnings
+pub mod Restarts

@@ -41,3 +41,11 @@ pub fn tables()
     ensures records { (journal x y : List ℕ) (ys : List (List ℕ)) → IsTable journal → IsRow (row (x ∷ y ∷ ys))
         → table_records (journal ++ row (x ∷ y ∷ ys)) ≡ table_records journal ++ (x ∷ y ∷ ys) ∷ [] }
 {}
+
+/// A journal that a crash has left, begun again.
+pub fn restarts()
+    // It is the journal that had begun, with the first of the records behind it: no header is appended a second time.
+    ensures { (bytes left : List ℕ) (records : List (List ℕ)) → TakesRecords (begun bytes (header_for (whole_lines bytes))) → All IsLine records
+        → IsFront (begun bytes (header_for (whole_lines bytes))) left → IsFront left (begun bytes (header_for (whole_lines bytes)) ++ concat records)
+        → (count : ℕ) × (count ≤ length records) × (begun left (header_for (whole_lines left)) ≡ begun bytes (header_for (whole_lines bytes)) ++ concat (take count records)) }
+{}

@@ -1,15 +1,19 @@
 -- How an order desk on a folder ends.
-use Rattle.std.proofs.Common.{◌≡◌, ◌∙◌, ℕ, true, List, Option, Result, Ok, Err, inl, inr, length, subst, sym}
+use Rattle.std.proofs.Common.{◌≡◌, ◌⊎◌, ◌∙◌, ℕ, true, List, Option, Result, Ok, Err, inl, inr, length, subst, sym}
 use Rattle.std.specs.Prelude.{IfErr, IfOk, IsErrAnd, IsTrue, string_bytes}
+use Rattle.std.specs.declared.fs.File.{File}
+use Rattle.mrp_rows.specs.Told.{HasRisenBy}
 use Rattle.mrp_rows.specs.declared.told.Told.{Told}
+use Rattle.mrp_journal.specs.File.{failures_told}
+use Rattle.mrp_journal.specs.declared.file.JournalFile.{JournalFile}
 use Rattle.mrp_tables.specs.Tables.{Tables}
 use Rattle.mrp_script.specs.Script.{script_of}
 use Rattle.mrp_words.specs.Folder.{Known}
 use Rattle.mrp_calls.specs.Desk.{Desk}
 use Rattle.mrp_commands.specs.declared.ending.Ending.{Ending}
 use Rattle.mrp_commands.specs.declared.ending.Ending.TheVariants as ending
-use Rattle.mrp_open.specs.Ends.{FailsToBegin, FailsToStart, FailsWithLock, IsServed, ServesOn, TellsEnd, cut_of}
-use Rattle.mrp_open.specs.Opening.{IsUntouched, Opening}
+use Rattle.mrp_open.specs.Ends.{FailsToBegin, FailsToStart, FailsWithLock, IsServed, IsUnbegun, ServesOn, TellsEnd, cut_of}
+use Rattle.mrp_open.specs.Opening.{FailsToWrite, HasFailed, IsFailing, IsUntouched, Opening}
 use Rattle.mrp_open.specs.Served.{FailsToRead}
 use Rattle.mrp_open.specs.Start.{AnswersJournal, AreUnchanged, FailsToOpen, HasOtherSum, IsPrepared}
 use Rattle.mrp_open.specs.declared.finding.Found.{Found}
@@ -57,28 +61,62 @@ pub passed-on : {T : Type 0} (r : Result T Ending) (end : Ending) (P : Ending �
 passed-on (Ok x) end P is p = tt
 passed-on (Err e) end P is p = subst P (sym is) p
 
+-- a journal could not be begun
+pub fails-to-write : {S : Type 0} (failures : S → ℕ) (old new : Opening) → HasFailed old new ⊎ IsFailing failures → FailsToWrite failures old new
+fails-to-write failures old new (inl failed) = inl failed.risen
+fails-to-write failures old new (inr failed) = inr failed
+
+-- nothing has failed before
+write-since : {S : Type 0} (failures : S → ℕ) (first before opened : Opening) → before.failures ≡ first.failures → FailsToWrite failures before opened → FailsToWrite failures first opened
+write-since failures first before opened same (inl risen) = inl (subst (λ (n : ℕ). HasRisenBy 1 n opened.failures) same risen)
+write-since failures first before opened same (inr failed) = inr failed
+
+-- a journal that was not begun, for another reason
+begin-for : (known : Known) (folder : List ℕ) (found : Found) (tables : Tables) (one other : Type 0) (end : Ending) → (one → other) → FailsToBegin known folder found tables one end → FailsToBegin known folder found tables other end
+begin-for known folder found tables one other end so (inl takes) = inl takes
+begin-for known folder found tables one other end so (inr (takes, inl sum)) = inr (takes, inl sum)
+begin-for known folder found tables one other end so (inr (takes, inr (is, failed))) = inr (takes, inr (is, so failed))
+
 module _ (known : Known) (folder : List ℕ) where
-  module _ (opened : Opening) where
+  module _ (before opened : Opening) where
     -- one whose folder was not opened
-    pub not-opened : (end : Ending) → opened.is_held ≡ true → FailsToOpen known folder end → FailsWithLock opened known folder end
+    pub not-opened : (end : Ending) → opened.is_held ≡ true → FailsToOpen known folder end → FailsWithLock before opened known folder end
     not-opened end held fails = record { held = held; fails = inl fails }
 
     -- one that did not begin
-    pub not-begun : (found : Found) (tables : Tables) (end : Ending) → opened.is_held ≡ true → IsPrepared known folder found tables → FailsToBegin known folder found tables end → FailsWithLock opened known folder end
+    pub not-begun : (found : Found) (tables : Tables) (end : Ending) → opened.is_held ≡ true → IsPrepared known folder found tables
+        → FailsToBegin known folder found tables (FailsToWrite (λ (file : JournalFile File). failures_told file) before opened) end → FailsWithLock before opened known folder end
     not-begun found tables end held prepared fails = record { held = held; fails = inr (found, tables, prepared, fails) }
 
     -- one without memory
-    pub no-memory : (r : Result Ending Ending) → opened.is_held ≡ true → IfErr r (λ end. end ≡ ending.NoMemory) → IfErr r (FailsWithLock opened known folder)
+    pub no-memory : (r : Result Ending Ending) → opened.is_held ≡ true → IfErr r (λ end. end ≡ ending.NoMemory) → IfErr r (FailsWithLock before opened known folder)
     no-memory (Ok end) held is = tt
     no-memory (Err end) held is = record { held = held; fails = inl (inr (inr is)) }
 
-    -- one that had the lock
-    pub with-lock : (before : Opening) (r : Result Ending Ending) → IfErr r (IsUntouched before opened) → IfErr r (FailsWithLock opened known folder) → IfErr r (FailsToStart before opened known folder)
-    with-lock before (Ok end) untouched fails = tt
-    with-lock before (Err end) untouched fails = record { untouched = untouched; fails = inr fails }
+    -- why, since nothing has failed
+    fails-since : (first : Opening) (end : Ending) → before.failures ≡ first.failures → FailsToOpen known folder end ⊎ IsUnbegun known folder (FailsToWrite (λ (file : JournalFile File). failures_told file) before opened) end
+        → FailsToOpen known folder end ⊎ IsUnbegun known folder (FailsToWrite (λ (file : JournalFile File). failures_told file) first opened) end
+    fails-since first end same (inl unopened) = inl unopened
+    fails-since first end same (inr (found, tables, prepared, begins)) =
+        let failures = λ (file : JournalFile File). failures_told file in
+        inr (found, tables, prepared, begin-for known folder found tables (FailsToWrite failures before opened) (FailsToWrite failures first opened) end (write-since failures first before opened same) begins)
 
-  module _ (found : Found) (tables : Tables) where
+    -- the same since nothing has failed
+    lock-since : (first : Opening) (end : Ending) → before.failures ≡ first.failures → FailsWithLock before opened known folder end → FailsWithLock first opened known folder end
+    lock-since first end same with_lock = record { held = with_lock.held; fails = fails-since first end same with_lock.fails }
+
+    -- one that had the lock
+    pub with-lock : (first : Opening) (r : Result Ending Ending) → before.failures ≡ first.failures → IfErr r (IsUntouched first opened) → IfErr r (FailsWithLock before opened known folder) → IfErr r (FailsToStart first opened known folder)
+    with-lock first (Ok end) same untouched fails = tt
+    with-lock first (Err end) same untouched fails = record { untouched = untouched; fails = inr (lock-since first end same fails) }
+
+  module _ (found : Found) (tables : Tables) (failed : Type 0) where
+    -- one whose journal could not be opened or written
+    pub unwritten : (end : Ending) → IsTrue found.takes_records → (end ≡ ending.NoMemory) ⊎ (end ≡ ending.Write) → (end ≡ ending.Write → failed) → FailsToBegin known folder found tables failed end
+    unwritten end takes (inl is) fails = inl (inr is)
+    unwritten end takes (inr is) fails = inr (takes, inr (is, fails is))
+
     -- one whose tables have another sum
-    pub other-sum : (records : ℕ) (end : Ending) → IsTrue found.takes_records → records ≡ length (script_of tables) → HasOtherSum known folder records (string_bytes found.sum) end → FailsToBegin known folder found tables end
+    pub other-sum : (records : ℕ) (end : Ending) → IsTrue found.takes_records → records ≡ length (script_of tables) → HasOtherSum known folder records (string_bytes found.sum) end → FailsToBegin known folder found tables failed end
     other-sum records end takes count other =
         inr (takes, inl (subst (λ (n : ℕ). HasOtherSum known folder n (string_bytes found.sum) end) count other))

@@ -1,5 +1,5 @@
 -- The files of runs are made, one after the other.
-use Rattle.std.proofs.Common.{◌≡◌, ◌∙◌, ℕ, List, [], ◌∷◌, ◌++◌, Option, Some, None, Result, Ok, Err, inl, inr, ap, append_assoc, refl, subst, sym}
+use Rattle.std.proofs.Common.{◌≡◌, ◌⊎◌, ◌∙◌, ℕ, List, [], ◌∷◌, ◌++◌, Option, Some, None, Result, Ok, Err, inl, inr, ap, append_assoc, refl, subst, sym}
 use Rattle.std.proofs.lemmas.Fn.{FoldsTo-push}
 use Rattle.std.proofs.lemmas.List.{append-nil}
 use Rattle.std.specs.Prelude.{IfErr, IfOk, OnErr, OnOk}
@@ -21,10 +21,15 @@ use Rattle.mrp_runs.specs.declared.telling.Note.{Note}
 use Rattle.mrp_open.specs.Made.{GivesNext, MakesAll, MakesEach, MakesFirst, MakesRun, TellsNote}
 
 module _ {N : Type 0} (contents : N → Option (List ℕ)) where
-  -- a note is told, or the stream gives up
+  -- a text is told, or the stream gives up
+  pub tells-text : {T X : Type 0} (old new : Told N) (text : List ℕ) (r : Result T X) → OnOk r (HasTakenAll contents old new text) → OnErr r (HasGivenUp old new WRITE_TRIES)
+      → HasTakenAll contents old new text ⊎ HasGivenUp old new WRITE_TRIES
+  tells-text old new text (Ok x) whole gave_up = inl whole
+  tells-text old new text (Err x) whole gave_up = inr gave_up
+
+  -- so is a note
   pub tells-note : {T X : Type 0} (run : Run) (said : Note) (old new : Told N) (r : Result T X) → OnOk r (HasTakenAll contents old new (note_text run.snapshot.front said)) → OnErr r (HasGivenUp old new WRITE_TRIES) → TellsNote contents run (Some said) old new
-  tells-note run said old new (Ok x) whole gave_up = inl whole
-  tells-note run said old new (Err x) whole gave_up = inr gave_up
+  tells-note run said old new r whole gave_up = tells-text old new (note_text run.snapshot.front said) r whole gave_up
 
   module _ (P : Type 0) (tables : Tables) where
     -- the file of a run is made, and what came of it is told

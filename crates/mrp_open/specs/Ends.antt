@@ -1,5 +1,6 @@
 -- How an order desk on a folder ends (profile).
 use Rattle.std.specs.Prelude.{ℕ, ◌≡◌, ◌⊎◌, true, IsTrue, List, Option, None, length, string_bytes}
+use Rattle.std.specs.declared.fs.File.{File}
 use Rattle.mrp_rows.specs.declared.told.Told.{Told}
 use Rattle.mrp_rows.specs.Told.{inner_of}
 use Rattle.mrp_rows.specs.declared.streams.TheConstants.{WRITE_TRIES}
@@ -8,11 +9,13 @@ use Rattle.mrp_report.specs.Taken.{HasTakenAll}
 use Rattle.mrp_report.specs.Written.{HasGivenUp, HasTakenFront}
 use Rattle.mrp_script.specs.Script.{script_of}
 use Rattle.mrp_words.specs.Folder.{Known}
+use Rattle.mrp_journal.specs.File.{failures_told}
+use Rattle.mrp_journal.specs.declared.file.JournalFile.{JournalFile}
 use Rattle.mrp_calls.specs.Desk.{Desk}
 use Rattle.mrp_commands.specs.Telling.{words_of}
 use Rattle.mrp_commands.specs.declared.ending.Ending.{Ending}
 use Rattle.mrp_commands.specs.declared.ending.Ending.TheVariants as ending
-use Rattle.mrp_open.specs.Opening.{HasFailed, IsInUse, IsUntouched, Opening}
+use Rattle.mrp_open.specs.Opening.{FailsToWrite, HasFailed, IsInUse, IsUntouched, Opening}
 use Rattle.mrp_open.specs.Served.{FailsToRead, MakesUp, Stand}
 use Rattle.mrp_open.specs.Start.{AnswersJournal, AreUnchanged, FailsToOpen, HasOtherSum, IsPrepared, TakesNoMore, cut_number, cut_text}
 use Rattle.mrp_open.specs.declared.finding.Found.{Found}
@@ -68,26 +71,26 @@ abbrev pub IsBarred : Opening → Opening → Ending → Type 0
 IsBarred before opened end = ((end ≡ ending.InUse) × IsInUse before opened) ⊎ ((end ≡ ending.Read) × HasFailed before opened)
 
 -- why the journal of a folder is not begun whose shop was opened: it takes no more records, its tables have another sum, it
--- can't be written, or there was no memory
-abbrev pub FailsToBegin : Known → List ℕ → Found → Tables → Ending → Type 0
-FailsToBegin known folder found tables end =
+-- can't be written, as a call has failed, or there was no memory
+abbrev pub FailsToBegin : Known → List ℕ → Found → Tables → Type 0 → Ending → Type 0
+FailsToBegin known folder found tables failed end =
     TakesNoMore tables found.takes_records end
-    ⊎ (IsTrue found.takes_records × (HasOtherSum known folder (length (script_of tables)) (string_bytes found.sum) end ⊎ (end ≡ ending.Write)))
+    ⊎ (IsTrue found.takes_records × (HasOtherSum known folder (length (script_of tables)) (string_bytes found.sum) end ⊎ ((end ≡ ending.Write) × failed)))
 
 -- the shop of a folder was opened, and its journal is not begun
-abbrev pub IsUnbegun : Known → List ℕ → Ending → Type 0
-IsUnbegun known folder end = (found : Found) × (tables : Tables) × IsPrepared known folder found tables × FailsToBegin known folder found tables end
+abbrev pub IsUnbegun : Known → List ℕ → Type 0 → Ending → Type 0
+IsUnbegun known folder failed end = (found : Found) × (tables : Tables) × IsPrepared known folder found tables × FailsToBegin known folder found tables failed end
 
 -- why an order desk on a folder that was locked answers nothing
-pub record FailsWithLock (opened : Opening) (known : Known) (folder : List ℕ) (end : Ending) : Type 0 where
+pub record FailsWithLock (before opened : Opening) (known : Known) (folder : List ℕ) (end : Ending) : Type 0 where
   pub held : opened.is_held ≡ true
-  pub fails : FailsToOpen known folder end ⊎ IsUnbegun known folder end
+  pub fails : FailsToOpen known folder end ⊎ IsUnbegun known folder (FailsToWrite (λ (file : JournalFile File). failures_told file) before opened) end
 
 -- why an order desk on a folder answers nothing, and that its journal is then as it was, unless it could not be written or
 -- there was no memory
 pub record FailsToStart (before opened : Opening) (known : Known) (folder : List ℕ) (end : Ending) : Type 0 where
   pub untouched : IsUntouched before opened end
-  pub fails : IsBarred before opened end ⊎ FailsWithLock opened known folder end
+  pub fails : IsBarred before opened end ⊎ FailsWithLock before opened known folder end
 
 -- how an order desk ends, and what it tells: with lines that were answered, or before any was read or answered
 abbrev pub DeskEnds : Opening → Opening → Known → List ℕ → {R W E : Type 0} → (R → Option (List ℕ)) → (W → Option (List ℕ)) → (E → Option (List ℕ)) → Told R → Told R → Told W → Told W → Told E → Told E → Ending → Type 0

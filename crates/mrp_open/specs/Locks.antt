@@ -1,7 +1,10 @@
 -- The lock of the folder that an order desk is opened on (profile).
-use Rattle.std.specs.Prelude.{◌≡◌, Result, Ok, Err}
+use Rattle.std.specs.Prelude.{◌≡◌, if◌then◌else◌, Option, Some, None, Result, Ok, Err}
 use Rattle.std.specs.declared.fs.TryLockError.{TryLockError}
 use Rattle.std.specs.declared.fs.TryLockError.TheVariants as try
+use Rattle.std.specs.IoError.{error_kind}
+use Rattle.std.specs.declared.io.Error.{Error}
+use Rattle.mrp_words.specs.Folder.{is_absent}
 use Rattle.mrp_open.specs.declared.disk.LockFault.{LockFault}
 use Rattle.mrp_open.specs.declared.disk.LockFault.TheVariants as lock
 
@@ -10,3 +13,8 @@ abbrev pub IsTaken : Result (Unit {0}) TryLockError → Result (Unit {0}) LockFa
 IsTaken (Ok done) taken = taken ≡ Ok done
 IsTaken (Err try.WouldBlock) taken = taken ≡ Err lock.InUse
 IsTaken (Err (try.Error error)) taken = taken ≡ Err lock.Read
+
+-- a folder has a handle, by what opening it came to: none where it is not there
+abbrev pub HasHandle : {F : Type 0} → Result F Error → Result (Option F) LockFault → Type 0
+HasHandle (Ok handle) found = found ≡ Ok (Some handle)
+HasHandle (Err error) found = found ≡ (if is_absent (error_kind error) then Ok None else Err lock.Read)

@@ -43,6 +43,10 @@ FailsToOpenJournal old new end = ((end ≡ ending.NoMemory) × (new ≡ old)) �
 abbrev pub IsFailing : {S : Type 0} → (S → ℕ) → Type 0
 IsFailing {S} failures = (old new : S) × HasRisenBy 1 (failures old) (failures new)
 
+-- a journal can't be begun: a call of its folder has failed, or one of its file
+abbrev pub FailsToWrite : {S : Type 0} → (S → ℕ) → Opening → Opening → Type 0
+FailsToWrite failures old new = HasRisenBy 1 old.failures new.failures ⊎ IsFailing failures
+
 -- an end before which a journal may have been opened
 abbrev pub IsTouching : Ending → Type 0
 IsTouching end = (end ≡ ending.NoMemory) ⊎ (end ≡ ending.Write)

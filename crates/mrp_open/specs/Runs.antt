@@ -1,5 +1,5 @@
 -- The runs of an order desk's entries, and which of them are handed over (profile).
-use Rattle.std.specs.Prelude.{ℕ, ◌≡◌, ◌⊎◌, true, List, [], ◌∷◌, ◌++◌, Option, option_map}
+use Rattle.std.specs.Prelude.{ℕ, ◌≡◌, ◌⊎◌, true, List, [], ◌∷◌, ◌++◌, Option, Some, ⊤, option_map}
 use Rattle.std.specs.List.{FoldsTo}
 use Rattle.std.specs.Path.{path_join}
 use Rattle.mrp_turn.specs.declared.log.Entry.{Entry}
@@ -34,6 +34,11 @@ abbrev pub HandsMissing : Known → List ℕ → Reply → Option (List ℕ) →
 HandsMissing known folder (reply.Taken snapshot) old new =
     (new ≡ with_front snapshot.front old) ⊎ ((new ≡ old) × IsThere known (path_join folder (run_name snapshot.front)) true)
 HandsMissing known folder r old new = new ≡ old
+
+-- where a reply answers a run, the folder is known to have a file of the run
+abbrev pub HasFile : Known → List ℕ → Reply → Type 0
+HasFile known folder (reply.Taken snapshot) = (bytes : List ℕ) × (known (path_join folder (run_name snapshot.front)) ≡ Some (Some bytes))
+HasFile known folder r = ⊤
 
 -- of these entries, the runs without a file in the folder are told, each once, in order
 abbrev pub HandsAllMissing : Known → List ℕ → History → Option (List ℕ) → Option (List ℕ) → Type 0

@@ -3,6 +3,7 @@
 ghost use Rattle.std.specs.Prelude.{◌≡◌, ◌⊎◌, ℕ, Bool, true, List, Err, None, Option, Some, IfErr, IfSome, MatchOption, OnErr, OnOk};
 ghost use Rattle.std.specs.List.{All};
 ghost use Rattle.mrp_rows.specs.Told.{failures_of, inner_of};
+ghost use Rattle.mrp_intake.specs.Intake.{IsOneRead};
 ghost use Rattle.mrp_intake.specs.Lines.{told_lines};
 ghost use Rattle.mrp_journal.specs.Held.{IsSettled};
 ghost use Rattle.mrp_commands.specs.declared.ending.Ending.TheVariants as ending;
@@ -31,21 +32,27 @@ pub trait RunTaker {
     /// The numbers of the runs that it was given or told of, in order, as far as that is known.
     ghost told: { Self → Option (List ℕ) };
 
+    /// The numbers of those that it was given, as far as that is known.
+    ghost given: { Self → Option (List ℕ) };
+
     /// It was told that no more runs come.
     ghost closed: { Self → Bool };
 
     /// Takes a run.
     fn take(&mut self, run: Run)
         requires { takes run }
-        ensures { told self.new ≡ with_front run.snapshot.front (told self.old) };
+        ensures told { told self.new ≡ with_front run.snapshot.front (told self.old) }
+        ensures given { given self.new ≡ with_front run.snapshot.front (given self.old) };
 
     /// Is told of a run that could not be given, as there was no memory for it.
     fn miss(&mut self, front: u64)
-        ensures { told self.new ≡ with_front front (told self.old) };
+        ensures told { told self.new ≡ with_front front (told self.old) }
+        ensures given { given self.new ≡ given self.old };
 
     /// Is told that no more runs come.
     fn close(&mut self)
         ensures told { told self.new ≡ told self.old }
+        ensures given { given self.new ≡ given self.old }
         ensures closed { closed self.new ≡ true };
 }
 
@@ -105,6 +112,7 @@ fn answer_batch<S: Store, W: Write>(
         (record { desk = desk.new; journal = S.held journal.new; output = W.contents (inner_of output.new) })) }
     ensures end { IfErr result (λ end. (end ≡ ending.NoMemory) ⊎ (end ≡ ending.Write)) }
     ensures write { result ≡ Err ending.Write → FailsToSettle (S.failures journal.old) (S.failures journal.new) output.old output.new }
+    ensures memory { result ≡ Err ending.NoMemory → (S.failures journal.new ≡ S.failures journal.old) × (failures_of output.new ≡ failures_of output.old) }
     ensures sound { OnOk result (S.failures journal.new ≡ S.failures journal.old) }
     ensures failures { OnOk result (failures_of output.new ≡ failures_of output.old) }
 {
@@ -137,6 +145,7 @@ fn settle_batch<S: Store, W: Write, T: RunTaker>(
         (record { desk = desk.new; journal = S.held journal.new; output = W.contents (inner_of output.new) }) end × (T.told taker.new ≡ T.told taker.old)) }
     ensures write { result ≡ Some ending.Write → FailsToSettle (S.failures journal.old) (S.failures journal.new) output.old output.new }
     ensures read { result ≡ Some ending.Read → ⊥ }
+    ensures memory { result ≡ Some ending.NoMemory → (S.failures journal.new ≡ S.failures journal.old) × (failures_of output.new ≡ failures_of output.old) }
     ensures sound { result ≡ None → S.failures journal.new ≡ S.failures journal.old }
     ensures failures { result ≡ None → failures_of output.new ≡ failures_of output.old }
 {
@@ -171,6 +180,8 @@ fn serve_batch<S: Store, R: Read, W: Write, T: RunTaker>(
         (record { desk = desk.new; journal = S.held journal.new; output = W.contents (inner_of output.new) }) end × (T.told taker.new ≡ T.told taker.old)) }
     ensures read { result ≡ Some ending.Read → FailsToRead input.old input.new }
     ensures write { result ≡ Some ending.Write → FailsToSettle (S.failures journal.old) (S.failures journal.new) output.old output.new }
+    ensures memory { result ≡ Some ending.NoMemory → (S.failures journal.new ≡ S.failures journal.old) × (failures_of output.new ≡ failures_of output.old) }
+    ensures one { result ≡ None → IsOneRead (R.remaining (inner_of input.old)) (R.remaining (inner_of input.new)) }
     ensures heard { result ≡ None → failures_of input.new ≡ failures_of input.old }
     ensures sound { result ≡ None → S.failures journal.new ≡ S.failures journal.old }
     ensures failures { result ≡ None → failures_of output.new ≡ failures_of output.old }
@@ -201,6 +212,7 @@ pub fn serve<S: Store, R: Read, W: Write, T: RunTaker>(
         (T.told taker.old) (T.told taker.new) result }
     ensures read { result ≡ ending.Read → FailsToRead input.old input.new }
     ensures write { result ≡ ending.Write → FailsToSettle (S.failures journal.old) (S.failures journal.new) output.old output.new }
+    ensures memory { result ≡ ending.NoMemory → (S.failures journal.new ≡ S.failures journal.old) × (failures_of output.new ≡ failures_of output.old) }
 {
     let mut intake = Intake::new(alloc);
     let mut texts = Texts {

@@ -12,15 +12,16 @@ ghost use Rattle.mrp_folder.specs.Sealed.{folder_of, has_seal, journal_of, name_
 ghost use Rattle.mrp_engine.specs.declared.day.run.TheConstants.{MOST_WORKERS};
 ghost use Rattle.mrp_words.specs.Folder.{IsAt, IsThere, nothing_known};
 ghost use Rattle.mrp_calls.specs.Desk.{Desk};
+ghost use Rattle.mrp_commands.specs.Telling.{words_of};
 ghost use Rattle.mrp_commands.specs.declared.ending.Ending.TheVariants as ending;
 ghost use Rattle.mrp_book.specs.declared.reply.Reply.TheVariants as reply;
 ghost use Rattle.mrp_runs.specs.File.{IsRun, run_name};
 ghost use Rattle.mrp_runs.specs.declared.run.Run.{Run};
 ghost use Rattle.mrp_open.specs.Disk.{opening_of, path_of};
-ghost use Rattle.mrp_open.specs.Ends.{DeskEnds, FailsToBegin, FailsToStart, FailsWithLock, IsServed, ServesOn, TellsEnd, cut_of};
+ghost use Rattle.mrp_open.specs.Ends.{DeskEnds, FailsToBegin, FailsToStart, FailsWithLock, IsServed, IsTold, ServesOn, TellsEnd, cut_of};
 ghost use Rattle.mrp_open.specs.Made.{MakesAll};
-ghost use Rattle.mrp_open.specs.Opening.{IsUntouched};
-ghost use Rattle.mrp_open.specs.Runs.{HandsAllMissing, HandsMissing, IsRunOf};
+ghost use Rattle.mrp_open.specs.Opening.{FailsToWrite, IsUntouched};
+ghost use Rattle.mrp_open.specs.Runs.{HandsAllMissing, HandsMissing, HasFile, IsRunOf};
 ghost use Rattle.mrp_open.specs.Served.{FailsToRead, FailsToSettle, MakesUp};
 ghost use Rattle.mrp_open.specs.Start.{AnswersJournal, AreUnchanged, sum_path};
 
@@ -81,7 +82,8 @@ fn hand_missing_run<F: FileStore, T: RunTaker>(
     taker: &mut T,
 )
     requires { T.takes (record { desk = desk; snapshot = snapshot.now }) }
-    ensures { HandsMissing (F.known files.now) folder.now (reply.Taken snapshot.now) (T.told taker.old) (T.told taker.new) }
+    ensures told { HandsMissing (F.known files.now) folder.now (reply.Taken snapshot.now) (T.told taker.old) (T.told taker.new) }
+    ensures given { HasFile (F.known files.now) folder.now (reply.Taken snapshot.now) → T.given taker.new ≡ T.given taker.old }
 {
     match has_run(files, alloc, folder, snapshot.front()) {
         Ok(true) => {}
@@ -99,7 +101,8 @@ fn hand_missing<F: FileStore, T: RunTaker>(
     taker: &mut T,
 )
     requires { IsRunOf T.takes entry.now }
-    ensures { HandsMissing (F.known files.now) folder.now entry.now.reply (T.told taker.old) (T.told taker.new) }
+    ensures told { HandsMissing (F.known files.now) folder.now entry.now.reply (T.told taker.old) (T.told taker.new) }
+    ensures given { HasFile (F.known files.now) folder.now entry.now.reply → T.given taker.new ≡ T.given taker.old }
 {
     match &entry.reply {
         Reply::Taken(snapshot) => {
@@ -118,7 +121,8 @@ pub fn hand_over_missing<F: FileStore, T: RunTaker>(
     taker: &mut T,
 )
     requires { All (IsRunOf T.takes) entries.now }
-    ensures { HandsAllMissing (F.known files.now) folder.now entries.now (T.told taker.old) (T.told taker.new) }
+    ensures told { HandsAllMissing (F.known files.now) folder.now entries.now (T.told taker.old) (T.told taker.new) }
+    ensures given { All (λ e. HasFile (F.known files.now) folder.now e.reply) entries.now → T.given taker.new ≡ T.given taker.old }
 {
     for entry in entries {
         hand_missing(files, alloc, folder, entry, taker);
@@ -179,7 +183,7 @@ fn begin<'a, F: FileStore, R: Files, P: JournalPlace>(
     ensures unsealed { IfOk result (λ begun. has_seal begun.journal ≡ false → (length begun.desk.entries ≡ 0) ⊎ IsAt (F.known files.now) (sum_path folder.now) None) }
     ensures unchanged { IfOk result (λ begun. AreUnchanged (F.known files.now) folder.now (length begun.desk.entries) (string_bytes prepared.now.found.sum)) }
     ensures untouched { IfErr result (IsUntouched (P.opening place.old) (P.opening place.new)) }
-    ensures unbegun { IfErr result (FailsToBegin (F.known files.now) folder.now prepared.now.found prepared.now.rows.value.tables) }
+    ensures unbegun { IfErr result (FailsToBegin (F.known files.now) folder.now prepared.now.found prepared.now.rows.value.tables (FailsToWrite P.Journal.failures (P.opening place.old) (P.opening place.new))) }
 {
     let desk = answer_journal(alloc, prepared)?;
     let records = desk.entries().len();
@@ -198,13 +202,12 @@ fn begin<'a, F: FileStore, R: Files, P: JournalPlace>(
 }
 
 // Hands over the runs of the journal whose files are not there, and answers calls until the input ends or something
-// fails. What was cut off is told first, and how it ends last.
+// fails. Nothing but how it ends is told: what was cut off was told before.
 fn serve_told<F: FileStore, S: Store, I: Read, W: Write, E: Write, T: RunTaker>(
     rt: &impl Wait,
     alloc: Global,
     files: &F,
     folder: &str,
-    cut: Option<u64>,
     desk: &mut OpenDesk<'_>,
     journal: &mut S,
     input: &mut Told<I>,
@@ -218,12 +221,11 @@ fn serve_told<F: FileStore, S: Store, I: Read, W: Write, E: Write, T: RunTaker>(
         (record { desk = desk.old; journal = S.held journal.old; output = W.contents (inner_of output.old) })
         (record { desk = desk.new; journal = S.held journal.new; output = W.contents (inner_of output.new) })
         (T.told taker.old) (T.told taker.new) result }
-    ensures told { TellsEnd E.contents errors.old errors.new cut result }
+    ensures told { IsTold E.contents errors.old errors.new (words_of result) }
     ensures read { result ≡ ending.Read → FailsToRead input.old input.new }
     ensures write { result ≡ ending.Write → FailsToSettle (S.failures journal.old) (S.failures journal.new) output.old output.new }
     ensures closed { T.closed taker.new ≡ true }
 {
-    tell_cut(cut, errors);
     hand_over_missing(files, alloc, folder, desk.entries(), taker);
     let end = serve(rt, alloc, desk, journal, input, output, taker);
     taker.close();
@@ -249,7 +251,6 @@ fn serve_and_make<
     alloc: Global,
     files: &F,
     folder: &str,
-    cut: Option<u64>,
     maker: &mut RunMaker<'_>,
     from: &mut G,
     into: &mut D,
@@ -270,7 +271,7 @@ where
         (record { desk = desk.old; journal = S.held journal.old; output = W.contents (inner_of output.old) })
         (record { desk = desk.new; journal = S.held journal.new; output = W.contents (inner_of output.new) })
         (T.told taker.old) (T.told taker.new) result }
-    ensures told { TellsEnd E.contents errors.old errors.new cut result }
+    ensures told { IsTold E.contents errors.old errors.new (words_of result) }
     ensures read { result ≡ ending.Read → FailsToRead input.old input.new }
     ensures write { result ≡ ending.Write → FailsToSettle (S.failures journal.old) (S.failures journal.new) output.old output.new }
     ensures closed { T.closed taker.new ≡ true }
@@ -287,20 +288,28 @@ where
             (record { desk = desk.entry.now; journal = S.held journal.entry.now; output = W.contents (inner_of output.entry.now) })
             (record { desk = desk.exit.now; journal = S.held journal.exit.now; output = W.contents (inner_of output.exit.now) })
             (T.told taker.entry.now) (T.told taker.exit.now) result }
-        ensures told { TellsEnd E.contents errors.entry.now errors.exit.now cut result }
+        ensures told { IsTold E.contents errors.entry.now errors.exit.now (words_of result) }
         ensures read { result ≡ ending.Read → FailsToRead input.entry.now input.exit.now }
         ensures write { result ≡ ending.Write → FailsToSettle (S.failures journal.entry.now) (S.failures journal.exit.now) output.entry.now output.exit.now }
         ensures closed { T.closed taker.exit.now ≡ true }
     {
         serve_told(
-            rt, alloc, files, folder, cut, desk, journal, input, output, errors, taker,
+            rt, alloc, files, folder, desk, journal, input, output, errors, taker,
         )
     };
     let ((), end) = thread::join_mut(rt, &mut beside, &mut here);
     end
 }
 
-// Answers calls, and makes the files of runs beside that.
+// The folder that the files of runs are put into.
+fn run_folder<'a, R>(rt: &'a R, alloc: Global, folder: &'a str) -> DiskFolder<'a, R>
+    ensures at { folder_path result ≡ folder.now }
+    ensures part { part_of result ≡ codes "run.part" }
+{
+    DiskFolder::new(rt, alloc, folder, RUN_PART)
+}
+
+// Tells what was cut off, answers calls, and makes the files of runs beside that.
 //
 // Errors: `NoMemory` if there is no memory for handing runs over; nothing was told then.
 fn serve_beside<
@@ -315,6 +324,7 @@ fn serve_beside<
     rt: &R,
     alloc: Global,
     begun: Begun<'_, R, JournalFile<File>>,
+    mut into: DiskFolder<'_, R>,
     input: &mut Told<I>,
     output: &mut Told<W>,
     errors: &mut Told<E>,
@@ -323,6 +333,8 @@ where
     R::Dir: Send,
     requires given { (run : Run) → K.holds run → IsRun begun.maker run }
     requires taken { (run : Run) → IsRun begun.desk.tables run → K.holds run }
+    requires at { folder_path into ≡ begun.folder.now }
+    requires part { part_of into ≡ codes "run.part" }
     ensures served { IfOk result (λ end. (new : Desk) × ServesOn (F.known files.now) begun.entry.folder.now I.remaining W.contents input.old output.old output.new begun.entry.desk new end) }
     ensures told { IfOk result (TellsEnd E.contents errors.old errors.new begun.entry.cut) }
     ensures read { IfOk result (λ end. end ≡ ending.Read → FailsToRead input.old input.new) }
@@ -341,14 +353,13 @@ where
     };
     let mut taker = RunSender::new(rt, to);
     let mut source = RunReceiver::new(rt, from);
-    let mut into = DiskFolder::new(rt, alloc, folder, RUN_PART);
     let mut notes = Told::new(WholeLines::new(Notes { rt }));
+    tell_cut(cut, errors);
     Ok(serve_and_make(
         rt,
         alloc,
         files,
         folder,
-        cut,
         &mut maker,
         &mut source,
         &mut into,
@@ -387,13 +398,14 @@ where
     requires workers { IsInRange 1 MOST_WORKERS workers }
     requires held { (opening_of place.old).is_held ≡ true }
     ensures served { IfOk result (IsServed (opening_of place.new) (F.known files.now) folder.now I.remaining W.contents E.contents input.old input.new output.old output.new errors.old errors.new) }
-    ensures unbegun { IfErr result (FailsWithLock (opening_of place.new) (F.known files.now) folder.now) }
+    ensures unbegun { IfErr result (FailsWithLock (opening_of place.old) (opening_of place.new) (F.known files.now) folder.now) }
     ensures untouched { IfErr result (IsUntouched (opening_of place.old) (opening_of place.new)) }
     ensures same { OnErr result ((input.new ≡ input.old) × (output.new ≡ output.old) × (errors.new ≡ errors.old)) }
 {
     let prepared = prepare(rt, alloc, files, folder)?;
     let begun = begin(files, rt, alloc, folder, place, &prepared, workers)?;
-    serve_beside::<Brand, F, R, I, W, E>(files, rt, alloc, begun, input, output, errors)
+    let into = run_folder(rt, alloc, folder);
+    serve_beside::<Brand, F, R, I, W, E>(files, rt, alloc, begun, into, input, output, errors)
 }
 
 // An order desk on a folder, which is locked first.

@@ -1,20 +1,23 @@
 //! What a start does with a folder of the operating system. No contract can say what its files have.
 
-ghost use Rattle.std.specs.Prelude.{IfOk};
-ghost use Rattle.std.specs.Path.{path_join};
-ghost use Rattle.mrp_words.specs.Folder.{IsThere};
-ghost use Rattle.mrp_open.specs.Locks.{IsTaken};
+ghost use Rattle.std.specs.Prelude.{◌≡◌, IfOk, OnOk, true};
+ghost use Rattle.std.specs.Fs.{new_options, with_append, with_create};
+ghost use Rattle.std.specs.Path.{path_buf_bytes, path_join};
+ghost use Rattle.mrp_rows.specs.declared.fault.Table.TheVariants as t;
+ghost use Rattle.mrp_words.specs.Folder.{IsThere, path_in};
+ghost use Rattle.mrp_open.specs.Disk.{has_handle, is_taken, path_to_open};
+ghost use Rattle.mrp_open.specs.Locks.{HasHandle, IsTaken};
 
 use crate::place::JournalPlace;
 use mrp_commands::Ending;
 use mrp_journal::JournalFile;
 use mrp_qty::NoMemory;
 use mrp_words::FileStore;
-use std::alloc::Global;
+use std::alloc::{AllocError, Global};
 use std::fs::{File, OpenFile, OpenOptions, TryLockError};
 use std::io;
 use std::io::ErrorKind;
-use std::path::Path;
+use std::path::{Path, PathBuf};
 use std::rt::Files;
 
 /// Why a folder was not locked.
@@ -55,19 +58,29 @@ fn open_null<R: Files>(files: &R) -> io::Result<[R::File; 3]> {
 }
 
 // The path of a folder. An empty one is the folder that the program runs in.
-fn folder_path(folder: &str) -> &str {
+fn folder_path(folder: &str) -> &str
+    ensures { result.now ≡ path_to_open folder.now }
+{
     if folder.is_empty() { "." } else { folder }
 }
 
-// The handle of a folder, locked; `None` if there is no such folder.
-//
-// Errors: `InUse` if another process has the lock; `Read` if the folder can't be opened or locked.
-fn lock_folder(files: &impl Files<File = File>, folder: &str) -> Result<Option<File>, LockFault> {
-    match File::open(files, folder_path(folder)) {
-        Ok(handle) => {
-            hold(&handle)?;
-            Ok(Some(handle))
-        }
+// The lock of a folder.
+#[derive(Drop)]
+enum Lock<F> {
+    // It was not taken.
+    Free,
+    // There is no such folder.
+    Absent,
+    // The folder's own handle, which has the lock.
+    Held(F),
+}
+
+// The handle of a folder, by what opening it came to; `None` if there is no such folder.
+fn handle_of<F>(outcome: io::Result<F>) -> Result<Option<F>, LockFault>
+    ensures { HasHandle outcome result }
+{
+    match outcome {
+        Ok(handle) => Ok(Some(handle)),
         Err(error) if matches!(error.kind(), ErrorKind::NotFound | ErrorKind::NotADirectory) => {
             Ok(None)
         }
@@ -75,25 +88,55 @@ fn lock_folder(files: &impl Files<File = File>, folder: &str) -> Result<Option<F
     }
 }
 
-// The journal of a folder, opened to be appended to; it is made if it is not there.
+// Takes the lock of a folder, without waiting, if there is such a folder.
+//
+// Errors: `InUse` if another process has the lock; `Read` if the folder can't be opened or locked.
+fn lock_folder(files: &impl Files<File = File>, folder: &str) -> Result<Lock<File>, LockFault>
+    ensures { IfOk result (λ lock. is_taken lock ≡ true) }
+{
+    match handle_of(File::open(files, folder_path(folder)))? {
+        Some(handle) => {
+            hold(&handle)?;
+            Ok(Lock::Held(handle))
+        }
+        None => Ok(Lock::Absent),
+    }
+}
+
+// The path of a folder's journal.
+fn journal_path(alloc: Global, folder: &str) -> Result<PathBuf, AllocError>
+    ensures { IfOk result (λ path. path_buf_bytes path ≡ path_in folder.now t.Script) }
+{
+    Path::new(folder).join(alloc, "script.csv")
+}
+
+// How a journal is opened: to be appended to, and it is made if it is not there.
+fn to_append() -> OpenOptions
+    ensures { result ≡ with_create (with_append new_options true) true }
+{
+    let mut how = OpenOptions::new();
+    how.append(true);
+    how.create(true);
+    how
+}
+
+// The journal of a folder, opened.
 fn open_journal<R: Files>(
     files: &R,
     alloc: Global,
     folder: &str,
 ) -> io::Result<JournalFile<R::File>> {
-    let path = Path::new(folder).join(alloc, "script.csv")?;
-    let file = OpenOptions::new()
-        .append(true)
-        .create(true)
-        .open(files, path.as_str())?;
-    Ok(JournalFile::new(file))
+    let path = journal_path(alloc, folder)?;
+    Ok(JournalFile::new(to_append().open(files, path.as_str())?))
 }
 
-// Makes the names in a folder durable.
-fn sync_folder<F: OpenFile>(handle: &Option<F>) -> io::Result<()> {
-    match handle {
-        Some(handle) => handle.sync_all(),
-        None => Err(io::Error::from(ErrorKind::NotFound)),
+// Makes the names in a folder durable that is locked.
+fn sync_folder<F: OpenFile>(lock: &Lock<F>) -> io::Result<()>
+    ensures { OnOk result (has_handle lock.now ≡ true) }
+{
+    match lock {
+        Lock::Held(handle) => handle.sync_all(),
+        Lock::Free | Lock::Absent => Err(io::Error::from(ErrorKind::NotFound)),
     }
 }
 
@@ -105,9 +148,7 @@ pub struct DeskFolder<'a, R> {
     files: &'a R,
     alloc: Global,
     path: &'a str,
-    // Its own handle, which has the lock.
-    handle: Option<File>,
-    is_held: bool,
+    lock: Lock<File>,
     is_opened: bool,
     is_lasting: bool,
     in_use: u64,
@@ -128,8 +169,7 @@ impl<'a, R> DeskFolder<'a, R> {
             files,
             alloc,
             path,
-            handle: None,
-            is_held: false,
+            lock: Lock::Free,
             is_opened: false,
             is_lasting: false,
             in_use: 0,
@@ -184,9 +224,8 @@ impl<'a, R: Files<File = File>> DeskFolder<'a, R> {
         ensures unopened { (opening_of self.new).is_opened ≡ (opening_of self.old).is_opened }
     {
         match lock_folder(self.files, self.path) {
-            Ok(handle) => {
-                self.handle = handle;
-                self.is_held = true;
+            Ok(lock) => {
+                self.lock = lock;
                 Ok(())
             }
             Err(LockFault::InUse) => {
@@ -228,7 +267,7 @@ impl<'a, R: Files<File = File>> JournalPlace for DeskFolder<'a, R> {
     }
 
     fn sync_names(&mut self) -> Result<(), Ending> {
-        match sync_folder(&self.handle) {
+        match sync_folder(&self.lock) {
             Ok(()) => {
                 self.is_lasting = true;
                 Ok(())

@@ -1,6 +1,12 @@
 //! Runs that are handed to the thread that makes their files.
 
-ghost use Rattle.std.specs.Prelude.{◌≡◌, List, Option, IfSome};
+ghost use Rattle.std.specs.Prelude.{◌≡◌, ◌⊎◌, List, Option, IfSome};
+ghost use Rattle.mrp_rows.specs.declared.streams.TheConstants.{WRITE_TRIES};
+ghost use Rattle.mrp_report.specs.Taken.{HasTakenAll};
+ghost use Rattle.mrp_report.specs.Written.{HasGivenUp};
+ghost use Rattle.mrp_runs.specs.Notes.{note_text};
+ghost use Rattle.mrp_runs.specs.declared.refusal.Refusal.TheVariants as refusal;
+ghost use Rattle.mrp_runs.specs.declared.telling.Note.TheVariants as note;
 ghost use Rattle.mrp_runs.specs.File.{IsRun};
 ghost use Rattle.mrp_runs.specs.declared.run.Run.{Run};
 ghost use Rattle.mrp_open.specs.Made.{GivesNext, MakesAll, MakesRun};
@@ -46,10 +52,21 @@ pub struct RunSender<'a, K: RunKind, R> {
 }
 
 impl<'a, K: RunKind, R> RunSender<'a, K, R> {
-    /// A sender of runs.
-    pub fn new(rt: &'a R, to: Sender<Given<K>>) -> RunSender<'a, K, R> {
+    ghost use Rattle.std.specs.Prelude.{◌≡◌, false, is_none};
+
+    /// A sender of runs, to which more may come.
+    pub fn new(rt: &'a R, to: Sender<Given<K>>) -> RunSender<'a, K, R>
+        ensures { is_none result.to ≡ false }
+    {
         RunSender { rt, to: Some(to) }
     }
+}
+
+// Tells of a run that there is no memory for it.
+fn tell_missed<W: Write>(front: u64, notes: &mut Told<W>)
+    ensures { HasTakenAll W.contents notes.old notes.new (note_text front (note.Refused refusal.NoMemory)) ⊎ HasGivenUp notes.old notes.new WRITE_TRIES }
+{
+    let _ = tell_run(front, Note::Refused(Refusal::NoMemory), notes);
 }
 
 // A run to be handed over.
@@ -69,6 +86,8 @@ impl<'a, K: RunKind, R: Eprint + Wait> RunTaker for RunSender<'a, K, R> {
 
     ghost told = { λ _. None };
 
+    ghost given = { λ _. None };
+
     ghost closed = { λ sender. is_none sender.to };
 
     fn take(&mut self, run: Run) {
@@ -84,7 +103,7 @@ impl<'a, K: RunKind, R: Eprint + Wait> RunTaker for RunSender<'a, K, R> {
 
     fn miss(&mut self, front: u64) {
         let mut notes = Told::new(WholeLines::new(Notes { rt: self.rt }));
-        let _ = tell_run(front, Note::Refused(Refusal::NoMemory), &mut notes);
+        tell_missed(front, &mut notes);
     }
 
     fn close(&mut self) {

@@ -77,10 +77,10 @@ impl<E: Write> WholeLines<E> {
 }
 
 impl<E: Write> Write for WholeLines<E> {
-    ghost use Rattle.std.specs.Prelude.{◌≡◌, [], None, IfOk, take};
+    ghost use Rattle.std.specs.Prelude.{◌≡◌, [], None, IfOk, OnOk, take};
     ghost use Rattle.std.specs.Io.{WritesAtMost};
-    ghost use Rattle.std.specs.Io.KnownBytes.{WriteAppends};
-    ghost use Rattle.mrp_open.specs.Lines.{TakesLines};
+    ghost use Rattle.std.specs.Io.KnownBytes.{Appends, Keeps, WriteAppends};
+    ghost use Rattle.mrp_open.specs.Lines.{TakesLines, kept_line, stream_of};
 
     fn write(&mut self, buf: &[u8]) -> io::Result<usize>
         ensures bound { WritesAtMost result buf.now }
@@ -94,7 +94,10 @@ impl<E: Write> Write for WholeLines<E> {
         Ok(count)
     }
 
-    fn flush(&mut self) -> io::Result<()> {
+    fn flush(&mut self) -> io::Result<()>
+        ensures bytes { Keeps None None }
+        ensures written { OnOk result (Appends (E.contents (stream_of self.old)) (E.contents (stream_of self.new)) (kept_line self.old)) }
+    {
         self.write_kept()?;
         self.inner.flush()
     }

@@ -8,25 +8,25 @@ ghost use Rattle.mrp_page.specs.Shares.{minutes_at, overloads_first};
 ghost use Rattle.mrp_page.specs.Work.{works_of};
 
 use crate::draw::{cut_weeks, put_more, put_table};
-use crate::explained::put_explained;
+use crate::explained::{put_explained, put_over_words};
 use crate::folded::{Lines, cut_rows, put_capped};
-use crate::frame::count_row;
+use crate::frame::put_count_row;
 use crate::html::Html;
 use crate::layout::centres::{
     capacity_label, centre_head, centre_open, centres_open, load_label, none_over, over_front,
-    over_label, over_open, over_words, share_cell, share_label,
+    over_label, over_open, share_cell, share_label,
 };
 use crate::layout::lists::{bullet_end, bullet_open, grid_end, list_end, rest_end, section_end};
 use crate::layout::records::later_open;
 use crate::layout::work::work_note;
 use crate::limits::{MOST_EXPLAINED, SOME_ROWS};
-use crate::pictured::{centre_frame, put_picture};
+use crate::pictured::{centre_frame, put_load_picture};
 use crate::places::Places;
 use crate::row::Row;
 use crate::rows::leaders;
 use crate::scene::Scene;
-use crate::shares::{overloads_first, put_minutes, share_row, share_rows};
-use crate::template::{put_dated, put_row};
+use crate::shares::{overloads_first, put_minutes, share_rows};
+use crate::template::put_row;
 use crate::weeks::put_weeks;
 use crate::work::{LoadWork, work_of};
 use mrp_facts::Facts;
@@ -142,9 +142,8 @@ fn put_framed_centre(
 ) -> Result<(), NoMemory>
     ensures { OnOk result (page.new ≡ page.old ++ framed_centre (option_copied tables.entry) frame.now rows.now) }
 {
-    let shares = share_rows(alloc, rows)?;
     put_row(page, centre_open(), frame)?;
-    put_picture(page, frame, shares.as_slice())?;
+    put_load_picture(alloc, page, frame, rows)?;
     put_all_loads(alloc, page, tables, frame, rows)?;
     page.markup(section_end())
 }
@@ -199,9 +198,8 @@ fn put_plain(
 ) -> Result<(), NoMemory>
     ensures { OnOk result (page.new ≡ page.old ++ plain_html (option_copied tables.entry) load.now) }
 {
-    let row = share_row(alloc, load)?;
     page.markup(bullet_open())?;
-    put_dated(page, tables, over_words(), &row)?;
+    put_over_words(alloc, page, tables, load)?;
     page.markup(bullet_end())
 }
 
@@ -268,8 +266,7 @@ fn put_over_or_none(
     if rows.is_empty() && missed == 0 {
         return page.markup(none_over());
     }
-    let count = count_row(alloc, rows.len() as u64, b"", b"")?;
-    put_row(page, over_open(), &count)?;
+    put_count_row(alloc, page, over_open(), rows.len() as u64, b"", b"")?;
     put_explained_note(page, work)?;
     let lines = Overloads { alloc, scene, work };
     put_capped(alloc, page, &lines, SOME_ROWS, rows)
@@ -317,10 +314,10 @@ pub(crate) fn put_centres(
 ) -> Result<(), NoMemory>
     ensures { OnOk result (page.new ≡ page.old ++ load_section scene.now loads.now missed) }
 {
-    let places = Places::of(alloc, loads)?;
-    let centres = leaders(alloc, loads)?;
     page.markup(centres_open())?;
     put_overloads(alloc, page, scene, loads, missed)?;
+    let places = Places::of(alloc, loads)?;
+    let centres = leaders(alloc, loads)?;
     put_each_centre(alloc, page, scene.tables(), &places, centres.as_slice())?;
     put_centres_back(alloc, page, missed)
 }

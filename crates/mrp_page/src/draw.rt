@@ -8,7 +8,7 @@ ghost use Rattle.mrp_page.specs.Row.{is_of};
 ghost use Rattle.mrp_page.specs.Template.{drawn_of};
 
 use crate::counts::Counts;
-use crate::frame::{count_row, frame_of};
+use crate::frame::{frame_of, put_count_row};
 use crate::html::{Html, is_zero};
 use crate::item_facts::{put_safety, put_scale};
 use crate::item_rows::ItemRows;
@@ -144,8 +144,7 @@ pub(crate) fn put_more(
     if count == 0 {
         return Ok(());
     }
-    let row = count_row(alloc, count, one, many)?;
-    put_row(page, more(), &row)
+    put_count_row(alloc, page, more(), count, one, many)
 }
 
 // Whether a plan has a firm schedule.
@@ -365,27 +364,6 @@ fn put_record_or_none(
     }
 }
 
-// Adds the record of an item, by its name.
-#[tactic(auto, unfolding(crate::specs::Draw::named_record))]
-pub(crate) fn put_named_record(
-    alloc: Global,
-    page: &mut Html,
-    tables: Option<&Facts<'_>>,
-    rows: &ItemRows<'_>,
-    name: &[u8],
-) -> Result<(), NoMemory>
-    ensures { OnOk result (page.new ≡ page.old ++ named_record (option_copied tables.entry) rows.now name.now) }
-{
-    put_record_or_none(
-        alloc,
-        page,
-        tables,
-        name,
-        rows.plan().named(name),
-        rows.promises().named(name),
-    )
-}
-
 // Adds a note that an item with a record may have promises that are not kept, if any are not.
 fn put_promises_note(
     page: &mut Html,
@@ -402,18 +380,22 @@ fn put_promises_note(
     }
 }
 
-// Adds the note on an item's promises, by its name.
-#[tactic(auto, unfolding(crate::specs::Draw::named_note))]
-pub(crate) fn put_named_note(
+// Adds the record of an item, by its name, and the note on its promises.
+#[tactic(auto, unfolding(crate::specs::Draw::named_note, crate::specs::Draw::named_record))]
+pub(crate) fn put_named_record(
+    alloc: Global,
     page: &mut Html,
+    tables: Option<&Facts<'_>>,
     rows: &ItemRows<'_>,
     missed: u64,
     name: &[u8],
 ) -> Result<(), NoMemory>
-    ensures { OnOk result (page.new ≡ page.old ++ named_note rows.now missed name.now) }
+    ensures { OnOk result (page.new ≡ page.old ++ (named_record (option_copied tables.entry) rows.now name.now ++ named_note rows.now missed name.now)) }
 {
     let plan = rows.plan().named(name);
-    put_promises_note(page, plan, rows.promises().named(name), missed)
+    let promises = rows.promises().named(name);
+    put_record_or_none(alloc, page, tables, name, plan, promises)?;
+    put_promises_note(page, plan, promises, missed)
 }
 
 // Adds for how many more weeks there are records and promises.

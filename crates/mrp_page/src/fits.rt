@@ -1,15 +1,16 @@
 //! Whether tables can be those of a day, by what is kept of it.
 
-ghost use Rattle.std.specs.Prelude.{◌≡◌, ◌<◌, count_by, length, map};
+ghost use Rattle.std.specs.Prelude.{◌≡◌, ◌<◌, length, map};
 ghost use Rattle.std.specs.List.{list_all, range_with_len};
 ghost use Rattle.std.specs.Option.{option_copied};
-ghost use Rattle.mrp_page.specs.Fits.{are_all, begins_at, firm_count, fits, has_item, is_same, known_if, numbers_of, shape_of, weeks_of};
+ghost use Rattle.mrp_page.specs.Fits.{are_all, begins_at, fits, has_item, is_same, known_if, numbers_of, shape_of, weeks_of};
 
 use crate::amounts::amount;
 use crate::frame::last_week;
 use crate::notes::Notes;
 use crate::row::Row;
 use crate::rows::rows_in;
+use crate::summary::count_with;
 use crate::template::has_word;
 use mrp_day::Section;
 use mrp_facts::{DayShape, Facts};
@@ -59,16 +60,6 @@ fn weeks_of(report: &[Row]) -> Option<u64>
     known_if(some, amount(last_week(report)))
 }
 
-// How many orders are firm.
-fn firm_count(orders: &[Row]) -> usize
-    ensures { result ≡ firm_count orders.now }
-{
-    orders
-        .iter()
-        .filter(|row| has_word(2, b"firm", *row))
-        .count()
-}
-
 // Whether all rows of a section are kept, given whether those of all items are asked for.
 fn are_all(all: bool, missed: u64) -> bool
     ensures { result ≡ are_all all missed }
@@ -91,7 +82,7 @@ fn shape_of(all: bool, notes: &Notes) -> DayShape
     DayShape {
         items: known_if(all, counts.items),
         weeks: weeks_of(report),
-        firm_rows: known_if(ordered, firm_count(orders) as u64),
+        firm_rows: known_if(ordered, count_with(2, b"firm", orders) as u64),
         receipts: known_if(pegged, receipts as u64),
         service_rows: known_if(pegged, services as u64),
     }

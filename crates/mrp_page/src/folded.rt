@@ -4,12 +4,11 @@ ghost use Rattle.std.specs.Prelude.{◌≡◌, ◌++◌, OnOk, drop, flat_map, m
 ghost use Rattle.mrp_page.specs.Folded.{Listing, capped_html, folded_html, hidden_html, listed_html};
 
 use crate::draw::put_more;
-use crate::frame::count_row;
+use crate::frame::put_count_row;
 use crate::html::Html;
 use crate::layout::lists::{rest_end, rest_open};
 use crate::limits::MOST_LINES;
 use crate::row::Row;
-use crate::template::put_row;
 use mrp_qty::NoMemory;
 use std::alloc::Global;
 
@@ -66,8 +65,7 @@ fn put_hidden<L: Lines>(
     if rows.is_empty() {
         return Ok(());
     }
-    let count = count_row(alloc, rows.len() as u64, b"", b"")?;
-    put_row(page, rest_open(), &count)?;
+    put_count_row(alloc, page, rest_open(), rows.len() as u64, b"", b"")?;
     put_listed(page, lines, rows)?;
     page.markup(rest_end())
 }

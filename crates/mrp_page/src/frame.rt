@@ -1,13 +1,17 @@
 //! Rows of a page that are not the day's: the frames of its tables and pictures.
 
-ghost use Rattle.std.specs.Prelude.{◌≡◌, IfOk};
+ghost use Rattle.std.specs.Prelude.{◌≡◌, ◌++◌, IfOk, OnOk, map};
 ghost use Rattle.mrp_page.specs.Frame.{count_row, frame, frame_of, heading, last_week};
+ghost use Rattle.mrp_page.specs.Template.{drawn_of, row_html};
 
+use crate::html::Html;
 use crate::row::Row;
 use crate::rows::{greatest, rows_in};
+use crate::template::{Part, put_row};
 use csv::ByteRecord;
+use itoa::Buffer;
 use mrp_day::Section;
-use mrp_qty::{NoMemory, number_text};
+use mrp_qty::NoMemory;
 use std::alloc::Global;
 
 // A frame: the name, the weeks and the greatest number of a table.
@@ -57,29 +61,45 @@ pub(crate) fn heading<'x>(
 ) -> Result<Row, NoMemory>
     ensures { IfOk result (λ row. row ≡ heading title.now report.now items) }
 {
-    let digits = number_text(alloc, items)?;
+    let mut digits = Buffer::new();
     let run = rows_in(report, Section::Run);
     let front = greatest(run, 0, b"0");
     let standing = greatest(run, 1, b"0");
     let weeks = last_week(report);
     let cells = ByteRecord::from_fields(
         alloc,
-        &[title, front, standing, weeks, digits.as_bytes()],
+        &[
+            title,
+            front,
+            standing,
+            weeks,
+            digits.format(items).as_bytes(),
+        ],
     )?;
     Ok(Row::new(Section::Run, cells))
 }
 
 // A count of what is not shown, and the word for it, singular or plural.
-pub(crate) fn count_row<'x>(
-    alloc: Global,
-    count: u64,
-    one: &'x [u8],
-    more: &'x [u8],
-) -> Result<Row, NoMemory>
+fn count_row<'x>(alloc: Global, count: u64, one: &'x [u8], more: &'x [u8]) -> Result<Row, NoMemory>
     ensures { IfOk result (λ row. row ≡ count_row count one.now more.now) }
 {
-    let digits = number_text(alloc, count)?;
+    let mut digits = Buffer::new();
     let words = if count == 1 { one } else { more };
-    let cells = ByteRecord::from_fields(alloc, &[digits.as_bytes(), words])?;
+    let cells = ByteRecord::from_fields(alloc, &[digits.format(count).as_bytes(), words])?;
     Ok(Row::new(Section::Run, cells))
+}
+
+// Adds a count, and the word for it.
+pub(crate) fn put_count_row(
+    alloc: Global,
+    page: &mut Html,
+    parts: &[Part],
+    count: u64,
+    one: &[u8],
+    more: &[u8],
+) -> Result<(), NoMemory>
+    ensures { OnOk result (page.new ≡ page.old ++ row_html (map drawn_of parts.now) (count_row count one.now more.now)) }
+{
+    let row = count_row(alloc, count, one, more)?;
+    put_row(page, parts, &row)
 }

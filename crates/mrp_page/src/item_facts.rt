@@ -1,6 +1,6 @@
 //! What the tables say of an item: its master data, its stock on hand, and its safety stock in a picture.
 
-ghost use Rattle.std.specs.Prelude.{◌≡◌, ◌++◌, IfOk, OnOk, Some, string_bytes};
+ghost use Rattle.std.specs.Prelude.{◌≡◌, ◌++◌, IfOk, OnOk, Some};
 ghost use Rattle.std.specs.Option.{option_copied};
 ghost use Rattle.mrp_page.specs.ItemFacts.{class_word, facts_html, facts_row, item_facts_html, lot_word, own_facts, own_facts_html, own_safety_html, own_scale_html, safety_cell_html, safety_cell_or_none, safety_html, safety_line_html, safety_scale_html, scale_html, size_text, steps_html, unit_word};
 
@@ -10,9 +10,10 @@ use crate::layout::records::{safety_line, safety_scale};
 use crate::row::Row;
 use crate::template::put_row;
 use csv::ByteRecord;
+use itoa::Buffer;
 use mrp_day::Section;
 use mrp_facts::{Facts, ItemFacts};
-use mrp_qty::{NoMemory, number_text};
+use mrp_qty::NoMemory;
 use mrp_tables::{Class, Item, LeadUnit, LotRule};
 use std::alloc::Global;
 
@@ -48,13 +49,13 @@ fn lot_word(lot: LotRule) -> &'static [u8]
 }
 
 // The size of a lot rule, in pieces or weeks; empty if it has none.
-fn size_text(alloc: Global, lot: LotRule) -> Result<String, NoMemory>
-    ensures { IfOk result (λ text. string_bytes text ≡ size_text lot) }
+fn size_text(digits: &mut Buffer, lot: LotRule) -> &[u8]
+    ensures { result.now ≡ size_text lot }
 {
     match lot {
-        LotRule::LotForLot => Ok(String::new(alloc)),
-        LotRule::Fixed(pieces) => number_text(alloc, pieces),
-        LotRule::Period(weeks) => number_text(alloc, weeks),
+        LotRule::LotForLot => b"",
+        LotRule::Fixed(pieces) => digits.format(pieces).as_bytes(),
+        LotRule::Period(weeks) => digits.format(weeks).as_bytes(),
     }
 }
 
@@ -64,28 +65,28 @@ fn facts_row(alloc: Global, unit: LeadUnit, own: &ItemFacts) -> Result<Row, NoMe
     ensures { IfOk result (λ row. row ≡ facts_row unit own.now) }
 {
     let item = &own.item;
-    let lead = number_text(alloc, item.lead)?;
-    let size = size_text(alloc, item.lot)?;
-    let least = number_text(alloc, item.least)?;
-    let step = number_text(alloc, item.step)?;
-    let percent = number_text(alloc, item.scrap / 10)?;
-    let tenths = number_text(alloc, item.scrap % 10)?;
-    let safety = number_text(alloc, item.safety.value())?;
-    let on_hand = number_text(alloc, own.on_hand)?;
+    let mut lead = Buffer::new();
+    let mut size = Buffer::new();
+    let mut least = Buffer::new();
+    let mut step = Buffer::new();
+    let mut percent = Buffer::new();
+    let mut tenths = Buffer::new();
+    let mut safety = Buffer::new();
+    let mut on_hand = Buffer::new();
     let cells = ByteRecord::from_fields(
         alloc,
         &[
             class_word(item.class),
-            lead.as_bytes(),
+            lead.format(item.lead).as_bytes(),
             unit_word(unit),
             lot_word(item.lot),
-            size.as_bytes(),
-            least.as_bytes(),
-            step.as_bytes(),
-            percent.as_bytes(),
-            tenths.as_bytes(),
-            safety.as_bytes(),
-            on_hand.as_bytes(),
+            size_text(&mut size, item.lot),
+            least.format(item.least).as_bytes(),
+            step.format(item.step).as_bytes(),
+            percent.format(item.scrap / 10).as_bytes(),
+            tenths.format(item.scrap % 10).as_bytes(),
+            safety.format(item.safety.value()).as_bytes(),
+            on_hand.format(own.on_hand).as_bytes(),
         ],
     )?;
     Ok(Row::new(Section::Run, cells))
@@ -160,8 +161,8 @@ fn own_facts(tables: Option<&Facts<'_>>, name: &[u8]) -> Option<ItemFacts>
 fn put_safety_line(alloc: Global, page: &mut Html, pieces: u64, frame: &Row) -> Result<(), NoMemory>
     ensures { OnOk result (page.new ≡ page.old ++ safety_line_html pieces frame.now) }
 {
-    let digits = number_text(alloc, pieces)?;
-    let cells = ByteRecord::from_fields(alloc, &[digits.as_bytes(), frame.cell(1)])?;
+    let mut digits = Buffer::new();
+    let cells = ByteRecord::from_fields(alloc, &[digits.format(pieces).as_bytes(), frame.cell(1)])?;
     put_row(page, safety_line(), &Row::new(Section::Run, cells))
 }
 
@@ -201,8 +202,8 @@ pub(crate) fn put_safety(
 fn put_safety_scale(alloc: Global, page: &mut Html, pieces: u64) -> Result<(), NoMemory>
     ensures { OnOk result (page.new ≡ page.old ++ safety_scale_html pieces) }
 {
-    let digits = number_text(alloc, pieces)?;
-    let cells = ByteRecord::from_fields(alloc, &[digits.as_bytes()])?;
+    let mut digits = Buffer::new();
+    let cells = ByteRecord::from_fields(alloc, &[digits.format(pieces).as_bytes()])?;
     put_row(page, safety_scale(), &Row::new(Section::Run, cells))
 }
 
@@ -233,31 +234,25 @@ pub(crate) fn put_scale(
 }
 
 // Adds a cell with an item's safety stock.
-fn put_safety_of(alloc: Global, page: &mut Html, own: &ItemFacts) -> Result<(), NoMemory>
+fn put_safety_of(page: &mut Html, own: &ItemFacts) -> Result<(), NoMemory>
     ensures { OnOk result (page.new ≡ page.old ++ safety_cell_or_none (Some own.now)) }
 {
-    let digits = number_text(alloc, own.item.safety.value())?;
-    page.number(digits.as_bytes())
+    let mut digits = Buffer::new();
+    page.number(digits.format(own.item.safety.value()).as_bytes())
 }
 
 // Adds a cell with the safety stock of an item of the tables.
-fn put_own_safety_cell(
-    alloc: Global,
-    page: &mut Html,
-    facts: &Facts<'_>,
-    name: &[u8],
-) -> Result<(), NoMemory>
+fn put_own_safety_cell(page: &mut Html, facts: &Facts<'_>, name: &[u8]) -> Result<(), NoMemory>
     ensures { OnOk result (page.new ≡ page.old ++ safety_cell_html (Some facts.now) name.now) }
 {
     match facts.item(name) {
-        Some(own) => put_safety_of(alloc, page, &own),
+        Some(own) => put_safety_of(page, &own),
         None => page.markup(b"<td></td>"),
     }
 }
 
 // Adds a cell with an item's safety stock if the tables are given.
 pub(crate) fn put_safety_cell(
-    alloc: Global,
     page: &mut Html,
     tables: Option<&Facts<'_>>,
     name: &[u8],
@@ -265,7 +260,7 @@ pub(crate) fn put_safety_cell(
     ensures { OnOk result (page.new ≡ page.old ++ safety_cell_html (option_copied tables.entry) name.now) }
 {
     match tables {
-        Some(facts) => put_own_safety_cell(alloc, page, facts, name),
+        Some(facts) => put_own_safety_cell(page, facts, name),
         None => Ok(()),
     }
 }

@@ -6,8 +6,8 @@ ghost use Rattle.mrp_page.specs.Items.{count_html, index_html, index_line, item_
 ghost use Rattle.mrp_page.specs.Pegs.{waits_for};
 ghost use Rattle.mrp_page.specs.Refused.{entry_name_html};
 
-use crate::draw::{put_dated_table, put_item_name, put_link, put_named_note, put_named_record};
-use crate::frame::count_row;
+use crate::draw::{put_dated_table, put_item_name, put_link, put_named_record};
+use crate::frame::put_count_row;
 use crate::html::Html;
 use crate::item_facts::put_item_facts;
 use crate::item_rows::ItemRows;
@@ -211,8 +211,7 @@ fn put_item(
     put_row(page, item_head(), leader)?;
     put_item_facts(alloc, page, scene.tables(), name)?;
     put_item_messages(alloc, page, scene, rows, leader)?;
-    put_named_record(alloc, page, scene.tables(), rows, name)?;
-    put_named_note(page, rows, missed, name)?;
+    put_named_record(alloc, page, scene.tables(), rows, missed, name)?;
     put_item_lists(page, scene, name)
 }
 
@@ -247,8 +246,7 @@ fn put_count(alloc: Global, page: &mut Html, count: u64) -> Result<(), NoMemory>
     if count == 0 {
         return Ok(());
     }
-    let row = count_row(alloc, count, b"", b"")?;
-    put_row(page, index_count(), &row)
+    put_count_row(alloc, page, index_count(), count, b"", b"")
 }
 
 // Adds an item of the index.

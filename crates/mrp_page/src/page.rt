@@ -5,11 +5,12 @@ ghost use Rattle.mrp_page.specs.ItemRows.{item_lists};
 ghost use Rattle.std.specs.Option.{option_copied};
 ghost use Rattle.mrp_page.specs.Page.{glance_html, head_html, is_told, items_of, page_html, page_of, rest_html, shown_html, told_first, top_html, untold_rows, AreRisksIn};
 ghost use Rattle.mrp_page.specs.AtRisk.{RisksView};
+ghost use Rattle.mrp_page.specs.Scene.{scene_of};
 
 use crate::centres::put_centres;
 use crate::counts::Counts;
 use crate::draw::{put_history, put_more_items};
-use crate::frame::{count_row, heading};
+use crate::frame::{heading, put_count_row};
 use crate::html::Html;
 use crate::item_rows::ItemRows;
 use crate::items::{put_index, put_items};
@@ -148,8 +149,7 @@ fn put_shown(alloc: Global, page: &mut Html, items: u64, shown: u64) -> Result<(
     if items <= shown {
         return Ok(());
     }
-    let count = count_row(alloc, shown, b"", b"")?;
-    put_row(page, page_shown(), &count)
+    put_count_row(alloc, page, page_shown(), shown, b"", b"")
 }
 
 // Adds the head of a page: its title, the entry that its run plans from, and its items.
@@ -205,7 +205,7 @@ fn put_page_of(
     ensures { OnOk result (page.new ≡ page.old ++ page_of title.now notes.now scene.now risks.now) }
 {
     let report = notes.report();
-    let messages = rows.messages().rows();
+    let messages = rows_in(report, Section::Messages);
     let loads = rows_in(report, Section::Loads);
     let counts = notes.counts();
     let shown = scene.count_shown();
@@ -227,10 +227,66 @@ fn put_page_of(
     put_rest(alloc, page, scene, rows, counts)
 }
 
+// Adds a page that is drawn from a scene.
+fn put_page_in(
+    alloc: Global,
+    page: &mut Html,
+    title: &[u8],
+    items: &[&[u8]],
+    notes: &Notes,
+    rows: &ItemRows<'_>,
+    scene: &Scene<'_, '_>,
+) -> Result<(), NoMemory>
+    requires { rows.now ≡ item_lists notes.now.report }
+    ensures { OnOk result ((risks : RisksView) × AreRisksIn items.now notes.now risks × (page.new ≡ page.old ++ page_of title.now notes.now scene.now risks)) }
+{
+    let pegs = rows_in(notes.report(), Section::Pegs);
+    let risks = Risks::of(alloc, items, notes.counts(), rows.orders(), pegs)?;
+    put_page_of(alloc, page, title, notes, rows, scene, &risks)
+}
+
+// Adds a page that shows these items.
+fn put_page_showing<'a>(
+    alloc: Global,
+    page: &mut Html,
+    title: &[u8],
+    tables: Option<&Facts<'_>>,
+    items: &[&[u8]],
+    notes: &'a Notes,
+    rows: &ItemRows<'a>,
+    shown: &[&'a Row],
+) -> Result<(), NoMemory>
+    requires { rows.now ≡ item_lists notes.now.report }
+    ensures { OnOk result ((risks : RisksView) × AreRisksIn items.now notes.now risks × (page.new ≡ page.old ++ page_of title.now notes.now (scene_of (map (λ r. r.now) shown.now) rows.now notes.now.history notes.now.counts.pegs (option_copied tables.entry)) risks)) }
+{
+    let missed = notes.counts().pegs;
+    let scene = Scene::of(alloc, shown, rows, notes.history(), missed, tables)?;
+    put_page_in(alloc, page, title, items, notes, rows, &scene)
+}
+
+// Adds a page, given the rows of its report that belong to items.
+#[tactic(auto, unfolding(crate::specs::Page::page_html, crate::specs::Page::shown_items))]
+fn put_page_with<'a>(
+    alloc: Global,
+    page: &mut Html,
+    title: &[u8],
+    tables: Option<&Facts<'_>>,
+    items: &[&[u8]],
+    notes: &'a Notes,
+    rows: &ItemRows<'a>,
+) -> Result<(), NoMemory>
+    requires { rows.now ≡ item_lists notes.now.report }
+    ensures { OnOk result ((risks : RisksView) × AreRisksIn items.now notes.now risks × (page.new ≡ page.old ++ page_html title.now (option_copied tables.entry) notes.now risks)) }
+{
+    let plan = rows_in(notes.report(), Section::Plan);
+    let leaders = told_first(alloc, rows.messages(), plan)?;
+    let shown = first_rows(leaders.as_slice());
+    put_page_showing(alloc, page, title, tables, items, notes, rows, shown)
+}
+
 // Adds a page, with what the tables of the day add to it if they are given.
 //
 // Errors: `NoMemory` if an allocation fails.
-#[tactic(auto, unfolding(crate::specs::Page::page_html, crate::specs::Page::shown_items))]
 pub(crate) fn put_page(
     alloc: Global,
     page: &mut Html,
@@ -242,11 +298,5 @@ pub(crate) fn put_page(
     ensures { OnOk result ((risks : RisksView) × AreRisksIn items.now notes.now risks × (page.new ≡ page.old ++ page_html title.now (option_copied tables.entry) notes.now risks)) }
 {
     let rows = ItemRows::of(alloc, notes.report())?;
-    let leaders = told_first(alloc, rows.messages(), rows.plan().rows())?;
-    let shown = first_rows(leaders.as_slice());
-    let counts = notes.counts();
-    let scene = Scene::of(alloc, shown, &rows, notes.history(), counts.pegs, tables)?;
-    let pegs = rows.pegs().places().rows();
-    let risks = Risks::of(alloc, items, counts, rows.orders(), pegs)?;
-    put_page_of(alloc, page, title, notes, &rows, &scene, &risks)
+    put_page_with(alloc, page, title, tables, items, notes, &rows)
 }

@@ -1,7 +1,8 @@
 //! The picture of a work centre's loads.
 
-ghost use Rattle.std.specs.Prelude.{◌≡◌, ◌++◌, IfOk, OnOk};
+ghost use Rattle.std.specs.Prelude.{◌≡◌, ◌++◌, IfOk, OnOk, map};
 ghost use Rattle.mrp_page.specs.Pictured.{bars_html, centre_frame, picture_html};
+ghost use Rattle.mrp_page.specs.Shares.{share_row};
 
 use crate::draw::put_table;
 use crate::frame::frame;
@@ -11,6 +12,7 @@ use crate::layout::centres::{
 };
 use crate::row::Row;
 use crate::rows::greatest;
+use crate::shares::share_rows;
 use crate::template::{put_row, put_rows};
 use mrp_qty::NoMemory;
 use std::alloc::Global;
@@ -28,12 +30,25 @@ fn put_bars(page: &mut Html, shares: &[Row]) -> Result<(), NoMemory>
 
 // Adds the picture of a work centre's loads.
 #[tactic(auto, unfolding(crate::specs::Pictured::picture_html))]
-pub(crate) fn put_picture(page: &mut Html, frame: &Row, shares: &[Row]) -> Result<(), NoMemory>
+fn put_picture(page: &mut Html, frame: &Row, shares: &[Row]) -> Result<(), NoMemory>
     ensures { OnOk result (page.new ≡ page.old ++ picture_html frame.now shares.now) }
 {
     put_row(page, load_chart(), frame)?;
     put_bars(page, shares)?;
     put_row(page, load_end(), frame)
+}
+
+// Adds the picture of a work centre's loads in these weeks.
+pub(crate) fn put_load_picture(
+    alloc: Global,
+    page: &mut Html,
+    frame: &Row,
+    weeks: &[Row],
+) -> Result<(), NoMemory>
+    ensures { OnOk result (page.new ≡ page.old ++ picture_html frame.now (map share_row weeks.now)) }
+{
+    let shares = share_rows(alloc, weeks)?;
+    put_picture(page, frame, shares.as_slice())
 }
 
 // The frame of a work centre: its name and its last week.

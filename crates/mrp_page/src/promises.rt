@@ -26,8 +26,9 @@ use crate::scene::Scene;
 use crate::shares::sort_by_week;
 use crate::template::{put_dated, put_row};
 use csv::ByteRecord;
+use itoa::Buffer;
 use mrp_day::Section;
-use mrp_qty::{NoMemory, number_text};
+use mrp_qty::NoMemory;
 use mrp_risk::Risk;
 use std::alloc::Global;
 use std::marker::Model;
@@ -69,8 +70,8 @@ fn risk_row(alloc: Global, orders: &[Row], peg: &Row, risk: Risk) -> Result<Row,
     requires { risk.order < length orders.now }
     ensures { IfOk result (λ row. row ≡ risk_row orders.now peg.now risk) }
 {
-    let pieces = number_text(alloc, shown_pieces(risk.pieces))?;
-    let pieces_text = pieces.as_bytes();
+    let mut pieces = Buffer::new();
+    let pieces_text = pieces.format(shown_pieces(risk.pieces)).as_bytes();
     drawn_risk(alloc, peg, &orders[risk.order], pieces_text)
 }
 
@@ -253,10 +254,10 @@ pub(crate) fn put_risks(
 ) -> Result<(), NoMemory>
     ensures { OnOk result (page.new ≡ page.old ++ risks_html scene.now risks.now) }
 {
+    page.markup(risk_open())?;
     let mut rows = each_of(alloc, risks.rows())?;
     sort_by_week(&mut rows)?;
     sort_by_late(&mut rows)?;
-    page.markup(risk_open())?;
     put_risks_or_none(alloc, page, scene, risks.is_known(), rows.as_slice())?;
     page.markup(section_end())
 }

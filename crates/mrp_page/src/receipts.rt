@@ -9,9 +9,10 @@ use crate::layout::todo::open_receipt;
 use crate::row::Row;
 use crate::template::{has_word, put_dated};
 use csv::ByteRecord;
+use itoa::Buffer;
 use mrp_day::Section;
 use mrp_facts::Facts;
-use mrp_qty::{NoMemory, number_text};
+use mrp_qty::NoMemory;
 use mrp_tables::Receipt;
 use std::alloc::Global;
 
@@ -31,9 +32,15 @@ pub(crate) fn receipt_of<'f>(tables: Option<&'f Facts<'_>>, message: &Row) -> Op
 pub(crate) fn receipt_row(alloc: Global, receipt: &Receipt) -> Result<Row, NoMemory>
     ensures { IfOk result (λ row. row ≡ receipt_row receipt.now) }
 {
-    let pieces = number_text(alloc, receipt.quantity.value())?;
-    let week = number_text(alloc, u64::from(receipt.week))?;
-    let cells = ByteRecord::from_fields(alloc, &[pieces.as_bytes(), week.as_bytes()])?;
+    let mut pieces = Buffer::new();
+    let mut week = Buffer::new();
+    let cells = ByteRecord::from_fields(
+        alloc,
+        &[
+            pieces.format(receipt.quantity.value()).as_bytes(),
+            week.format(receipt.week).as_bytes(),
+        ],
+    )?;
     Ok(Row::new(Section::Run, cells))
 }
 

@@ -10,8 +10,9 @@ use crate::promises::Risks;
 use crate::row::Row;
 use crate::template::{has_word, put_row};
 use csv::ByteRecord;
+use itoa::Buffer;
 use mrp_day::Section;
-use mrp_qty::{NoMemory, number_text};
+use mrp_qty::NoMemory;
 use std::alloc::Global;
 
 // A count, where it leads to, and what it counts: `none` marks a count of 0, and a second count may
@@ -26,12 +27,18 @@ fn tile<'x>(
 ) -> Result<Row, NoMemory>
     ensures { IfOk result (λ row. row ≡ tile count mark.now place.now what.now all) }
 {
-    let digits = number_text(alloc, count)?;
-    let whole = number_text(alloc, all)?;
+    let mut digits = Buffer::new();
+    let mut whole = Buffer::new();
     let mark = if count == 0 { b"none".as_slice() } else { mark };
     let cells = ByteRecord::from_fields(
         alloc,
-        &[digits.as_bytes(), mark, place, what, whole.as_bytes()],
+        &[
+            digits.format(count).as_bytes(),
+            mark,
+            place,
+            what,
+            whole.format(all).as_bytes(),
+        ],
     )?;
     Ok(Row::new(Section::Run, cells))
 }
@@ -53,7 +60,7 @@ fn put_tile(
 }
 
 // How many rows have a word in a column.
-fn count_with(column: usize, word: &[u8], rows: &[Row]) -> usize
+pub(crate) fn count_with(column: usize, word: &[u8], rows: &[Row]) -> usize
     ensures { result ≡ count_with column word.now rows.now }
 {
     rows.iter()

@@ -9,6 +9,7 @@ pub mod Lists
 pub mod Own
 pub mod Loops
 pub mod Weekly
+pub mod Placed
 pub mod Listed
 pub mod Released
 pub mod Totals

@@ -1,6 +1,7 @@
 pub mod Units
 pub mod Matching
 pub mod Weekly
+pub mod Placed
 pub mod Pegging
 pub mod Left
 pub mod Rows

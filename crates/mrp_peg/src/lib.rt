@@ -13,6 +13,7 @@ mod part;
 mod peg;
 mod peg_walk;
 mod pegging;
+mod placing;
 mod services;
 mod sourcing;
 mod supplies_left;

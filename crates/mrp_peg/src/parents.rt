@@ -1,16 +1,16 @@
 //! What the orders of a parent require of an item.
 
-ghost use Rattle.std.specs.Prelude.{◌≡◌, ◌==◌, ◌≤◌, ◌<◌, ◌*◌, ◌++◌, ℕ, true, false, filter, length, map, nat_lt, All, IsTrue, OnOk};
+ghost use Rattle.std.specs.Prelude.{◌≡◌, ◌==◌, ◌≤◌, ◌<◌, ◌*◌, ◌++◌, ℕ, List, true, false, filter, length, map, nat_lt, All, IsTrue, OnOk};
 ghost use Rattle.std.specs.List.{enumerate_from, slice_index_or};
 ghost use Rattle.std.specs.List.Sorted.{IsNonDecreasingBy, IsPartitionPoint};
 ghost use Rattle.mrp_qty.specs.Quantity.{greatest_quantity};
+ghost use Rattle.mrp_peg.specs.declared.matching.Requirement.{Requirement};
+ghost use Rattle.mrp_peg.specs.Placed.{AreCounted, ArePut};
 ghost use Rattle.mrp_peg.specs.Rows.{order_requirement};
-ghost use Rattle.mrp_peg.specs.Weekly.{of_week};
 
 use crate::matching::Requirement;
-use crate::ordering::with_week;
 use crate::peg::{Need, NeedKind};
-use mrp_bill::Numbered;
+use crate::placing::{count_one, put};
 use mrp_item::Order;
 use mrp_qty::NoMemory;
 
@@ -102,18 +102,26 @@ pub fn add_released(
     Ok(place)
 }
 
-// Adds the requirements that all orders of a parent make by a bill line, each with its week.
-pub fn add_all(
-    rows: &mut Vec<Numbered<Requirement>>,
-    item: usize,
-    by: &UsedBy<'_>,
-) -> Result<(), NoMemory>
+// Counts the requirements that all orders of a parent make by a bill line.
+pub fn count_all(counts: &mut [usize], orders: &[Order]) -> Result<(), NoMemory>
+    ensures { OnOk result ((count item line per : ℕ) (counted : List Requirement) → AreCounted count counted counts.old
+        → AreCounted count (counted ++ map (order_requirement item line per) (enumerate_from 1 orders.now)) counts.new) }
+{
+    for order in orders {
+        count_one(counts, order.release)?;
+    }
+    Ok(())
+}
+
+// Puts the requirements that all orders of a parent make by a bill line at their places.
+pub fn put_all(needs: &mut [Requirement], next: &mut [usize], item: usize, by: &UsedBy<'_>)
     requires { All (λ order. order.start * by.now.per ≤ greatest_quantity) by.now.orders.now }
-    ensures { OnOk result (rows.new.items ≡ rows.old.items ++ map of_week (map (order_requirement item by.now.line by.now.per) (enumerate_from 1 by.now.orders.now))) }
+    ensures { (count : ℕ) (placed rest : List Requirement)
+        → ArePut count placed (map (order_requirement item by.now.line by.now.per) (enumerate_from 1 by.now.orders.now) ++ rest) next.old needs.old
+        → ArePut count (placed ++ map (order_requirement item by.now.line by.now.per) (enumerate_from 1 by.now.orders.now)) rest next.new needs.new }
 {
     let orders = by.orders;
     for (place, order) in orders.iter().enumerate() {
-        rows.push(with_week(requirement_of(item, by, place + 1, order)))?;
+        put(needs, next, requirement_of(item, by, place + 1, order));
     }
-    Ok(())
 }

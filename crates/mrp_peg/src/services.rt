@@ -1,13 +1,13 @@
 //! What the service rows of the master schedule require of a part.
 
-ghost use Rattle.std.specs.Prelude.{◌≡◌, ◌==◌, ◌∷◌, ◌++◌, [], filter, if◌then◌else◌, map, OnOk};
+ghost use Rattle.std.specs.Prelude.{◌≡◌, ◌==◌, ◌∷◌, ◌++◌, [], ℕ, List, filter, if◌then◌else◌, map, OnOk};
+ghost use Rattle.mrp_peg.specs.declared.matching.Requirement.{Requirement};
+ghost use Rattle.mrp_peg.specs.Placed.{AreCounted, ArePut};
 ghost use Rattle.mrp_peg.specs.Rows.{service_requirement};
-ghost use Rattle.mrp_peg.specs.Weekly.{of_week};
 
 use crate::matching::Requirement;
-use crate::ordering::with_week;
 use crate::peg::{Need, NeedKind};
-use mrp_bill::Numbered;
+use crate::placing::{count_one, put};
 use mrp_item::Due;
 use mrp_qty::NoMemory;
 
@@ -54,16 +54,24 @@ pub fn add_services_in(
     Ok(())
 }
 
-// Adds the requirements of all service rows, each with its week.
-pub fn add_services(
-    rows: &mut Vec<Numbered<Requirement>>,
-    item: usize,
-    services: &[Due],
-) -> Result<(), NoMemory>
-    ensures { OnOk result (rows.new.items ≡ rows.old.items ++ map of_week (map (service_requirement item) services.now)) }
+// Counts the requirements of all service rows.
+pub fn count_services(counts: &mut [usize], services: &[Due]) -> Result<(), NoMemory>
+    ensures { OnOk result ((count item : ℕ) (counted : List Requirement) → AreCounted count counted counts.old
+        → AreCounted count (counted ++ map (service_requirement item) services.now) counts.new) }
 {
     for service in services {
-        rows.push(with_week(requirement_of(item, service)))?;
+        count_one(counts, service.week)?;
     }
     Ok(())
+}
+
+// Puts the requirements of all service rows at their places.
+pub fn put_services(needs: &mut [Requirement], next: &mut [usize], item: usize, services: &[Due])
+    ensures { (count : ℕ) (placed rest : List Requirement)
+        → ArePut count placed (map (service_requirement item) services.now ++ rest) next.old needs.old
+        → ArePut count (placed ++ map (service_requirement item) services.now) rest next.new needs.new }
+{
+    for service in services {
+        put(needs, next, requirement_of(item, service));
+    }
 }

@@ -1,20 +1,21 @@
 //! The where-used list of an item: the bill lines to it, each with the orders of its parent.
 
-ghost use Rattle.std.specs.Prelude.{◌≡◌, ◌==◌, ◌+◌, ◌<◌, ◌≤◌, ◌++◌, ℕ, false, filter, length, map, slice_index, OnOk};
+ghost use Rattle.std.specs.Prelude.{◌≡◌, ◌==◌, ◌+◌, ◌<◌, ◌≤◌, ◌++◌, ℕ, List, false, filter, length, map, slice_index, OnOk};
 ghost use Rattle.std.specs.List.{enumerate_from};
 ghost use Rattle.std.specs.List.Sorted.{IsNonDecreasingBy};
 ghost use Rattle.mrp_tables.specs.declared.limits.TheConstants.{MOST_ROWS};
 ghost use Rattle.mrp_bill.specs.Bill.{line_at, lines_of};
 ghost use Rattle.mrp_item.specs.Inputs.{count, horizon, is_master};
 ghost use Rattle.mrp_item.specs.Plan.{HasParents, outcome_of, plan_in};
+ghost use Rattle.mrp_peg.specs.declared.matching.Requirement.{Requirement};
 ghost use Rattle.mrp_peg.specs.Own.{IsOwn};
+ghost use Rattle.mrp_peg.specs.Placed.{AreCounted, ArePut};
 ghost use Rattle.mrp_peg.specs.Rows.{all_requirements, line_to, line_requirements, order_requirement, parent_requirements, place_to};
-ghost use Rattle.mrp_peg.specs.Weekly.{AreWithin, of_week};
+ghost use Rattle.mrp_peg.specs.Weekly.{AreWithin};
 
 use crate::matching::Requirement;
 use crate::next_orders::NextOrders;
-use crate::parents::{UsedBy, add_all, add_released};
-use mrp_bill::Numbered;
+use crate::parents::{UsedBy, add_released, count_all, put_all};
 use mrp_item::{Inputs, Plan};
 use mrp_qty::NoMemory;
 use mrp_tables::BillLine;
@@ -95,15 +96,6 @@ impl<'a> WhereUsed<'a> {
         }
     }
 
-    // How many orders the parents have by all lines: how much room their requirements take.
-    pub fn count_orders(&self) -> usize {
-        let mut count: usize = 0;
-        for at in 0..self.len() {
-            count = count.saturating_add(self.line(at).orders.len());
-        }
-        count
-    }
-
     // Adds what parents' orders require in a week of an item that is no master item, by bill record and
     // then by order. It is faster if the weeks are asked for in order.
     pub fn required_in(
@@ -126,18 +118,29 @@ impl<'a> WhereUsed<'a> {
         Ok(())
     }
 
-    // Adds what parents' orders require of an item that is no master item, by bill record and then by
-    // order, each with its week.
-    pub fn add_required(&self, rows: &mut Vec<Numbered<Requirement>>) -> Result<(), NoMemory>
+    // Counts what parents' orders require of the item.
+    pub fn count_required(&self, counts: &mut [usize]) -> Result<(), NoMemory>
+        ensures { OnOk result ((count : ℕ) (counted : List Requirement) → AreCounted count counted counts.old
+            → AreCounted count (counted ++ parent_requirements self.now.plan.now.inputs self.now.item) counts.new) }
+    {
+        for at in 0..self.len() {
+            count_all(counts, self.line(at).orders)?;
+        }
+        Ok(())
+    }
+
+    // Puts what parents' orders require of an item that is no master item at its places, by bill record and
+    // then by order.
+    pub fn put_required(&self, needs: &mut [Requirement], next: &mut [usize])
         requires part { is_master self.now.plan.now.inputs self.now.item ≡ false }
         requires own { IsOwn self.now.plan.now.inputs self.now.item }
         requires within { AreWithin (λ requirement. requirement.need.week) 1 (horizon self.now.plan.now.inputs) (all_requirements self.now.plan.now.inputs self.now.item) }
-        ensures { OnOk result (rows.new.items ≡ rows.old.items ++ map of_week (parent_requirements self.now.plan.now.inputs self.now.item)) }
+        ensures { (count : ℕ) (placed rest : List Requirement)
+            → ArePut count placed (parent_requirements self.now.plan.now.inputs self.now.item ++ rest) next.old needs.old
+            → ArePut count (placed ++ parent_requirements self.now.plan.now.inputs self.now.item) rest next.new needs.new }
     {
         for at in 0..self.len() {
-            let by = self.line(at);
-            add_all(rows, self.item, &by)?;
+            put_all(needs, next, self.item, &self.line(at));
         }
-        Ok(())
     }
 }

@@ -1,4 +1,4 @@
--- Bills in two parts are all bills.
+-- Records in two parts are all records.
 use Rattle.std.proofs.Common.{◌≡◌, ◌∙◌, ◌-◌, ℕ, List, [], ◌++◌, drop, sym, ap}
 use Rattle.mrp_survey.specs.declared.bill_lines.BillLine.{BillLine}
 use Rattle.mrp_survey.specs.declared.bill_lines.BillsTold.{BillsTold}

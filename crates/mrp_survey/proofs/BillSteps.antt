@@ -18,7 +18,7 @@ use Rattle.mrp_loops.specs.Needs.{AreWithin}
 use Rattle.mrp_survey.specs.declared.bill_lines.BillLine.{BillLine}
 use Rattle.mrp_survey.specs.declared.form.Form.{Form}
 use Rattle.mrp_survey.specs.BillLines.{bill_line, known_place, line_of, lines_from, within_limit}
-use Rattle.mrp_survey.specs.BillParts.{unless, within_left}
+use Rattle.mrp_survey.specs.BillParts.{has_key, unless, within_left}
 use Rattle.mrp_survey.specs.Entry.{Entry}
 use Rattle.mrp_survey.specs.Entries.{name_in}
 use Rattle.mrp_survey.specs.Forms.{AllCells}
@@ -112,9 +112,22 @@ left-none (Some limit) number rows none = ap (take (limit + 1 - number)) none �
     take-none (suc n) = refl
 left-none None number rows none = none
 
--- a bill has nothing to itself
-pub no-key : (form : Form) (records : Records) (n : ℕ) (cells : AllCells) (width : ℕ) (entry : Entry) → entry ≡ entry_at form records n cells → form.table ≡ t.Bills → [] ≡ keys_after width [] entry
-no-key form records n cells width entry entry_is bills = by (is_whole width entry.row) (key_of entry) (ap (λ (own : Table). key_in own entry) (ap (λ (e : Entry). e.form.table) entry_is ∙ bills))
+keyless : (table : Table) (entry : Entry) → has_key table ≡ false → key_in table entry ≡ None
+keyless t.Calendar entry none = refl
+keyless t.Items entry none = absurd cc
+keyless t.Centres entry none = absurd cc
+keyless t.Stock entry none = absurd cc
+keyless t.Receipts entry none = absurd cc
+keyless t.Bills entry none = refl
+keyless t.Routings entry none = absurd cc
+keyless t.Master entry none = refl
+keyless t.Script entry none = refl
+keyless t.Bundle entry none = refl
+
+-- a record of a table without keys has nothing to itself
+pub no-key : (form : Form) (records : Records) (n : ℕ) (cells : AllCells) (width : ℕ) (entry : Entry) → entry ≡ entry_at form records n cells → has_key form.table ≡ false → [] ≡ keys_after width [] entry
+no-key form records n cells width entry entry_is none =
+    by (is_whole width entry.row) (key_of entry) (ap (λ (own : Table). key_in own entry) (ap (λ (e : Entry). e.form.table) entry_is) ∙ keyless form.table entry none)
   where
     by : (b : Bool) (key : Option Key) → key ≡ None → [] ≡ (if b then with_own [] key entry.place.line else [])
     by true key none = ap (λ (k : Option Key). with_own [] k entry.place.line) (sym none)

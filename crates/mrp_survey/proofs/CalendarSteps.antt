@@ -1,12 +1,14 @@
 -- What the calendar says, by its records that are kept.
-use Rattle.std.proofs.Common.{◌≡◌, ◌∙◌, ℕ, List, ◌++◌, Option, Some, None, length, map, refl, sym, ap, append_assoc}
-use Rattle.std.specs.Prelude.{option_and_then, option_map}
+use Rattle.std.proofs.Common.{◌≡◌, ◌∙◌, ℕ, List, [], ◌++◌, Option, Some, None, Result, Ok, Err, length, map, refl, sym, ap, append-nil, append_assoc}
+use Rattle.std.specs.Prelude.{IfOk, option_and_then, option_map}
 use Rattle.std.proofs.lemmas.List.{length-map}
 use Rattle.mrp_rows.specs.declared.fault.Table.{Table}
 use Rattle.mrp_rows.specs.declared.fault.Table.TheVariants as t
+use Rattle.mrp_cal.specs.Calendar.{ShopCalendar}
 use Rattle.mrp_tables.specs.declared.version.Version.{Version}
 use Rattle.mrp_survey.specs.declared.form.Form.{Form}
 use Rattle.mrp_survey.specs.declared.rule.Beside.{Beside}
+use Rattle.mrp_survey.specs.declared.tables.Dated.{Dated}
 use Rattle.mrp_survey.specs.Finding.{Told}
 use Rattle.mrp_survey.specs.Forms.{AllCells, Row}
 use Rattle.mrp_survey.specs.Horizons.{calendar_in, version_in}
@@ -52,3 +54,38 @@ module _ (sources : Sources) (form : Form) (sheet : Option Records) (own : Recor
   pub calendar-read : calendar_in form rows ≡ calendar_among sources
   calendar-read =
       ap (option_and_then (calendar_in form)) (sym here) ∙ ap (λ (f : Form). calendar_by f sheet) form_is ∙ ap (λ (s : Option Records). calendar_by (dated_form s) s) sheet_is
+
+abbrev dated_at : Option Version → Option ShopCalendar → Dated
+dated_at version calendar = record { version = version; calendar = calendar }
+
+none-below : (form : Form) (below : Option (List AllCells)) → None ≡ option_map (map (row_shown form)) below → below ≡ None
+none-below form None e = refl
+none-below form (Some all) e = absurd cc
+
+-- the same of a calendar that cannot be read
+module _ (sources : Sources) (form : Form) (sheet : Option Records) (own : Records) (sheet_is : sheet ≡ records_at sources t.Calendar) (form_is : form ≡ dated_form sheet) (own_is : sheet ≡ Some own)
+    (unread : None ≡ option_map (map (row_shown form)) (rows_below form own)) where
+  pub unread-told : (first now : List Told) → now ≡ first ++ table_told form nothing_beside sheet → now ≡ first ++ calendar_told sources
+  unread-told first now now_is =
+      let lacks : lacks_told form sheet ≡ [] = ap (lacks_told form) own_is ∙ ap (lacking form own) (none-below form (rows_below form own) unread) in
+      now_is ∙ ap (λ (l : List Told). first ++ l) (sym (append-nil (table_told form nothing_beside sheet)))
+      ∙ ap (λ (l : List Told). first ++ (table_told form nothing_beside sheet ++ l)) (sym lacks)
+      ∙ ap (λ (f : Form). first ++ dated_told f sheet) form_is
+      ∙ ap (λ (s : Option Records). first ++ dated_told (dated_form s) s) sheet_is
+
+  nowhere : rows_in form sheet ≡ None
+  nowhere = ap (rows_in form) own_is ∙ sym unread
+
+  unread-version : Some (version_of_items (records_at sources t.Items)) ≡ version_among sources
+  unread-version =
+      let guess : Version = version_of_items (records_at sources t.Items) in
+      ap (version_below guess form) (sym nowhere) ∙ ap (λ (f : Form). version_by guess f sheet) form_is ∙ ap (λ (s : Option Records). version_by guess (dated_form s) s) sheet_is
+
+  unread-calendar : None ≡ calendar_among sources
+  unread-calendar =
+      ap (option_and_then (calendar_in form)) (sym nowhere) ∙ ap (λ (f : Form). calendar_by f sheet) form_is ∙ ap (λ (s : Option Records). calendar_by (dated_form s) s) sheet_is
+
+  pub unread-dated : {E : Type 0} (r : Result Dated E) → IfOk r (λ dated. dated ≡ dated_at (Some (version_of_items (records_at sources t.Items))) None) → IfOk r (λ dated. dated ≡ dated_at (version_among sources) (calendar_among sources))
+  unread-dated (Ok dated) e =
+      e ∙ ap (λ (v : Option Version). dated_at v None) unread-version ∙ ap (λ (k : Option ShopCalendar). dated_at (version_among sources) k) unread-calendar
+  unread-dated (Err fault) e = tt

@@ -1,9 +1,9 @@
-//! The bill lines that lead from item to item.
+//! What is told of a table without keys, in two parts, and the bill lines among its records that lead from item to item.
 
-ghost use Rattle.std.specs.Prelude.{◌≡◌, ◌≤◌, ◌++◌, [], IfOk, OnOk, drop};
+ghost use Rattle.std.specs.Prelude.{◌≡◌, ◌≤◌, ◌++◌, [], IfOk, OnOk, drop, false};
 ghost use Rattle.std.specs.Option.{option_to_list};
 ghost use Rattle.mrp_survey.specs.BillLines.{bill_line, bill_lines};
-ghost use Rattle.mrp_survey.specs.BillParts.{TellsBack, TellsFront, TellsSome, unless};
+ghost use Rattle.mrp_survey.specs.BillParts.{TellsBack, TellsFront, TellsSome, has_key, unless};
 ghost use Rattle.mrp_survey.specs.Sought.{named_of};
 ghost use Rattle.mrp_survey.specs.Tables.{told_from};
 
@@ -19,7 +19,7 @@ use crate::table::is_past;
 use crate::tell::{is_whole, tell_record};
 use mrp_loops::Line;
 use mrp_qty::NoMemory;
-use mrp_rows::{Records, Table};
+use mrp_rows::Records;
 use std::alloc::Global;
 use std::thread::Threads;
 use std::{mem, thread};
@@ -69,16 +69,55 @@ fn add_line(
     Ok(())
 }
 
-// What is told of bills that stand one behind the other, and those of them that lead from item to item.
+// What is told of records that stand one behind the other, and those of them that are bill lines and lead from item to item.
 #[derive(Drop)]
 pub(crate) struct BillsTold {
     findings: Vec<Finding>,
     lines: Vec<BillLine>,
-    // Whether no bill behind them is told of.
+    // Whether no record behind them is told of.
     is_end: bool,
 }
 
-// Tells, behind what was told before, what is wrong with bills from the one of a number on and up to one that is not read.
+// Tells what is wrong with records from the one of a number on and up to one that is not read, each of which is read into the same
+// row, and adds bill lines. Returns whether no record behind them is told of.
+fn tell_each(
+    form: Form,
+    beside: &Beside,
+    sheet: &Sheet<'_>,
+    records: &mut Records<'_>,
+    row: &mut mrp_rows::Record,
+    first: usize,
+    past: usize,
+    seen: &Seen,
+    findings: &mut Vec<Finding>,
+    lines: &mut Vec<BillLine>,
+) -> Result<bool, NoMemory>
+    requires keyless { has_key form.table ≡ false }
+    requires ahead { first ≤ past }
+    requires seen { seen.now ≡ [] }
+    requires lines { lines.old.items ≡ [] }
+    ensures { IfOk result (λ is_end. TellsSome form beside.now sheet.now findings.old.items first records.old past records.new (record { findings = findings.new; lines = lines.new; is_end = is_end })) }
+{
+    let width = columns(form).len();
+    let limit = most_records(form);
+    for number in first..past {
+        if !records.next(width, row)? {
+            return Ok(true);
+        }
+        let place = sheet.place(form.table, number);
+        if is_past(limit, number) {
+            tell(place, row, 0, What::TooMany, findings)?;
+            return Ok(true);
+        }
+        let entry = Record::of(form, place, row);
+        let named = look_up(&beside.items, &entry);
+        tell_record(width, beside, &named, seen, &entry, findings)?;
+        add_line(width, &beside.items, &named, &entry, lines)?;
+    }
+    Ok(false)
+}
+
+// Tells, behind what was told before, what is wrong with records from the one of a number on and up to one that is not read.
 fn tell_some(
     alloc: Global,
     form: Form,
@@ -89,43 +128,31 @@ fn tell_some(
     past: usize,
     before: Vec<Finding>,
 ) -> Result<BillsTold, NoMemory>
-    requires bills { form.table ≡ Table.Bills }
+    requires keyless { has_key form.table ≡ false }
     requires ahead { first ≤ past }
     ensures { IfOk result (TellsSome form beside.now sheet.now before.items first records.old past records.new) }
 {
-    let width = columns(form).len();
-    let limit = most_records(form);
-    // No two bills have to differ.
+    // No two records have to differ.
     let seen = Seen::new(alloc);
+    let mut row = mrp_rows::Record::new(alloc);
     let mut findings = before;
     let mut lines = Vec::new(alloc);
-    let mut row = mrp_rows::Record::new(alloc);
-    for number in first..past {
-        if !records.next(width, &mut row)? {
-            return Ok(BillsTold {
-                findings,
-                lines,
-                is_end: true,
-            });
-        }
-        let place = sheet.place(form.table, number);
-        if is_past(limit, number) {
-            tell(place, &row, 0, What::TooMany, &mut findings)?;
-            return Ok(BillsTold {
-                findings,
-                lines,
-                is_end: true,
-            });
-        }
-        let entry = Record::of(form, place, &row);
-        let named = look_up(&beside.items, &entry);
-        tell_record(width, beside, &named, &seen, &entry, &mut findings)?;
-        add_line(width, &beside.items, &named, &entry, &mut lines)?;
-    }
+    let is_end = tell_each(
+        form,
+        beside,
+        sheet,
+        records,
+        &mut row,
+        first,
+        past,
+        &seen,
+        &mut findings,
+        &mut lines,
+    )?;
     Ok(BillsTold {
         findings,
         lines,
-        is_end: false,
+        is_end,
     })
 }
 
@@ -140,7 +167,7 @@ fn pass_over(alloc: Global, count: usize, records: &mut Records<'_>) -> Result<(
     Ok(())
 }
 
-// Takes findings out, and tells behind them what is wrong with the bills in front of the one of a number.
+// Takes findings out, and tells behind them what is wrong with the records in front of the one of a number.
 fn tell_front(
     alloc: Global,
     form: Form,
@@ -150,7 +177,7 @@ fn tell_front(
     past: usize,
     findings: &mut Vec<Finding>,
 ) -> Result<BillsTold, NoMemory>
-    requires bills { form.table ≡ Table.Bills }
+    requires keyless { has_key form.table ≡ false }
     requires ahead { 1 ≤ past }
     ensures { IfOk result (TellsFront form beside.now sheet.now findings.old.items records.old past) }
 {
@@ -158,7 +185,7 @@ fn tell_front(
     tell_some(alloc, form, beside, sheet, records, 1, past, before)
 }
 
-// Tells what is wrong with the bills from the one of a number on.
+// Tells what is wrong with the records from the one of a number on.
 fn tell_back(
     alloc: Global,
     form: Form,
@@ -167,7 +194,7 @@ fn tell_back(
     records: &mut Records<'_>,
     first: usize,
 ) -> Result<BillsTold, NoMemory>
-    requires bills { form.table ≡ Table.Bills }
+    requires keyless { has_key form.table ≡ false }
     requires ahead { 1 ≤ first }
     ensures { IfOk result (TellsBack form beside.now sheet.now records.old first) }
 {
@@ -182,7 +209,7 @@ fn tell_back(
     }
 }
 
-// What is told of all bills, from what is told of those in front and of those behind, in place of the findings before.
+// What is told of all records, from what is told of those in front and of those behind, in place of the findings before.
 fn join_told(
     front: BillsTold,
     back: BillsTold,
@@ -203,8 +230,8 @@ fn join_told(
     Ok(front.lines)
 }
 
-// Tells what is wrong with the bills below their header, in two threads if a second one can be started, and returns those that lead
-// from item to item. The records are given twice.
+// Tells what is wrong with the records below their header, of a table in which none has something to itself, in two threads if a
+// second one can be started. Returns the bill lines among them that lead from item to item. The records are given twice.
 pub(crate) fn tell_bill_lines(
     rt: &impl Threads,
     alloc: Global,
@@ -215,7 +242,7 @@ pub(crate) fn tell_bill_lines(
     again: &mut Records<'_>,
     findings: &mut Vec<Finding>,
 ) -> Result<Vec<BillLine>, NoMemory>
-    requires bills { form.table ≡ Table.Bills }
+    requires keyless { has_key form.table ≡ false }
     requires same { again.old ≡ records.old }
     ensures told { OnOk result (findings.new.items ≡ findings.old.items ++ told_from form beside.now sheet.now [] 1 records.old) }
     ensures lines { IfOk result (λ lines. lines.items ≡ bill_lines form beside.now.items sheet.now records.old) }
@@ -223,12 +250,12 @@ pub(crate) fn tell_bill_lines(
     let middle = sheet.middle();
     let before = &mut *findings;
     let read_front = move || -> Result<BillsTold, NoMemory>
-        requires bills { form.table ≡ Table.Bills }
+        requires keyless { has_key form.table ≡ false }
         requires ahead { 1 ≤ middle }
         ensures { IfOk result (TellsFront form beside.entry.now sheet.entry.now before.entry.now.items records.entry.now middle) }
     { tell_front(alloc, form, beside, sheet, records, middle, before) };
     let read_back = move || -> Result<BillsTold, NoMemory>
-        requires bills { form.table ≡ Table.Bills }
+        requires keyless { has_key form.table ≡ false }
         requires ahead { 1 ≤ middle }
         ensures { IfOk result (TellsBack form beside.entry.now sheet.entry.now again.entry.now middle) }
     { tell_back(alloc, form, beside, sheet, again, middle) };

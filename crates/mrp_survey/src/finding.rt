@@ -54,9 +54,9 @@ pub(crate) struct Place {
     pub(crate) line: u64,
 }
 
-/// One fault.
+// What a finding tells.
 #[derive(Drop)]
-pub struct Finding {
+struct Held {
     file: Table,
     table: Table,
     number: usize,
@@ -66,19 +66,26 @@ pub struct Finding {
     row: Record,
 }
 
+/// One fault.
+#[derive(Drop)]
+pub struct Finding {
+    // In memory of its own, so that many findings are soon put behind others.
+    held: Box<Held>,
+}
+
 impl Model for Finding {
     ghost use Rattle.mrp_survey.specs.Finding.{Told};
 
     ghost Value = { Told };
 
     ghost view = { λ f. record {
-      file = f.file;
-      table = f.table;
-      number = f.number;
-      line = f.line;
-      column = f.column;
-      what = f.what;
-      cells = f.row;
+      file = f.held.value.file;
+      table = f.held.value.table;
+      number = f.held.value.number;
+      line = f.held.value.line;
+      column = f.held.value.column;
+      what = f.held.value.what;
+      cells = f.held.value.row;
     } };
 }
 
@@ -90,42 +97,42 @@ impl Finding {
     pub fn file(&self) -> Table
         ensures { result ≡ self.now.file }
     {
-        self.file
+        self.held.file
     }
 
     /// The table that it is of.
     pub fn table(&self) -> Table
         ensures { result ≡ self.now.table }
     {
-        self.table
+        self.held.table
     }
 
     /// The record's number, from 1; 0 for the header.
     pub fn number(&self) -> usize
         ensures { result ≡ self.now.number }
     {
-        self.number
+        self.held.number
     }
 
     /// The line of the file in which the record begins, from 1: 1 of a table without a header, 0 of a record that is missing.
     pub fn line(&self) -> u64
         ensures { result ≡ self.now.line }
     {
-        self.line
+        self.held.line
     }
 
     /// The column, from 0. Of a wrong count of cells, that of the last cell.
     pub fn column(&self) -> usize
         ensures { result ≡ self.now.column }
     {
-        self.column
+        self.held.column
     }
 
     /// What is wrong.
     pub fn what(&self) -> What
         ensures { result ≡ self.now.what }
     {
-        self.what
+        self.held.what
     }
 
     /// The record's cells: of a header the first `HEADER_CELLS`, of another record as many as its table has columns; none of a
@@ -133,14 +140,14 @@ impl Finding {
     pub fn cells(&self) -> &Record
         ensures { result.now ≡ self.now.cells }
     {
-        &self.row
+        &self.held.row
     }
 
     /// The cell in that column.
     pub fn text(&self) -> &[u8]
         ensures { result.now ≡ cell_in self.now.cells self.now.column }
     {
-        cell_in(&self.row, self.column)
+        cell_in(&self.held.row, self.held.column)
     }
 }
 
@@ -154,15 +161,20 @@ pub(crate) fn tell(
 ) -> Result<(), NoMemory>
     ensures { OnOk result (findings.new.items ≡ findings.old.items ++ told place row.now column what ∷ []) }
 {
+    let alloc = *findings.allocator();
     let row = row.clone()?;
-    findings.push(Finding {
-        file: place.file,
-        table: place.table,
-        number: place.number,
-        line: place.line,
-        column,
-        what,
-        row,
-    })?;
+    let held = Box::new(
+        alloc,
+        Held {
+            file: place.file,
+            table: place.table,
+            number: place.number,
+            line: place.line,
+            column,
+            what,
+            row,
+        },
+    )?;
+    findings.push(Finding { held })?;
     Ok(())
 }

@@ -31,12 +31,23 @@ impl Model for Likes {
 impl Likes {
     ghost use Rattle.std.specs.Prelude.{◌≡◌, IfOk, option_map};
     ghost use Rattle.mrp_survey.specs.Likes.{first_like};
+    ghost use Rattle.mrp_survey.specs.Names.{place_among};
 
     pub(crate) fn of(alloc: Global, known: Known) -> Result<Likes, NoMemory>
         ensures { IfOk result (λ likes. likes ≡ known) }
     {
         let firsts = firsts_of(alloc, &known)?;
         Ok(Likes { known, firsts })
+    }
+
+    // The place of a name, from 0.
+    pub(crate) fn place_of(&self, name: &Name) -> Option<usize>
+        ensures { result ≡ place_among self.now name.now }
+    {
+        match self.known.find(name) {
+            Some((place, _)) => Some(place),
+            None => None,
+        }
     }
 
     // The first name that equals this one but for capitals.

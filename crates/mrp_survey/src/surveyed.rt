@@ -1,7 +1,8 @@
 //! What a survey of nine tables says.
 
-ghost use Rattle.std.specs.Prelude.{◌≡◌, IfOk, option_map};
+ghost use Rattle.std.specs.Prelude.{◌≡◌, IfOk, option_and_then, option_map};
 ghost use Rattle.mrp_survey.specs.Likes.{like_among};
+ghost use Rattle.mrp_survey.specs.Names.{place_among};
 
 use crate::finding::Finding;
 use crate::found_loop::FoundLoop;
@@ -42,10 +43,11 @@ impl Model for Survey {
 }
 
 impl Survey {
-    ghost use Rattle.std.specs.Prelude.{◌≡◌, map, option_map, unwrap_or};
+    ghost use Rattle.std.specs.Prelude.{◌≡◌, map, option_and_then, option_map, unwrap_or};
     ghost use Rattle.mrp_tables.specs.declared.version.Version.TheVariants.{One};
     ghost use Rattle.mrp_survey.specs.Headers.{table_columns};
     ghost use Rattle.mrp_survey.specs.Likes.{like_among};
+    ghost use Rattle.mrp_survey.specs.Names.{place_among};
 
     /// What is wrong with records, table by table: a header, then record by record the cells from the left, then what is wrong beside
     /// other records. Loops are not among them.
@@ -77,6 +79,13 @@ impl Survey {
         self.calendar.as_ref()
     }
 
+    /// The place of an item among the known ones, from 0.
+    pub fn item_place(&self, name: &Name) -> Option<usize>
+        ensures { result ≡ option_and_then (λ own. place_among own name.now) self.now.items }
+    {
+        place_among(&self.items, name)
+    }
+
     /// The first item whose name equals this one but for capitals.
     pub fn item_like(&self, name: &Name) -> Option<&Name>
         ensures { option_map (λ own. own.now) result ≡ like_among self.now.items name.now }
@@ -96,6 +105,15 @@ impl Survey {
         ensures { map (λ c. c.now) result.now ≡ table_columns (unwrap_or self.now.version One) table }
     {
         column_names(table, self.version.unwrap_or(Version::One))
+    }
+}
+
+fn place_among(names: &Option<Likes>, name: &Name) -> Option<usize>
+    ensures { result ≡ option_and_then (λ own. place_among own name.now) names.now }
+{
+    match names {
+        Some(names) => names.place_of(name),
+        None => None,
     }
 }
 

@@ -1,6 +1,6 @@
 //! What is told of a table's records.
 
-ghost use Rattle.std.specs.Prelude.{◌≡◌, ◌++◌, [], IfOk, OnOk};
+ghost use Rattle.std.specs.Prelude.{◌≡◌, ◌++◌, [], IfOk, None, OnOk, Some, if◌then◌else◌};
 ghost use Rattle.mrp_tables.specs.Reading.{is_past};
 ghost use Rattle.mrp_survey.specs.Tables.{class_in, empty_told, header_told, names_after, names_in, told_from};
 
@@ -83,6 +83,38 @@ pub(crate) fn tell_header(
     }
 }
 
+// Tells what is wrong with a table's records, each of which is read into the same row. No key was seen yet.
+fn tell_each(
+    form: Form,
+    beside: &Beside,
+    sheet: &Sheet<'_>,
+    records: &mut Records<'_>,
+    row: &mut mrp_rows::Record,
+    seen: &mut Seen,
+    findings: &mut Vec<Finding>,
+) -> Result<(), NoMemory>
+    requires { seen.old ≡ [] }
+    ensures { OnOk result (findings.new.items ≡ findings.old.items ++ told_from form beside.now sheet.now [] 1 records.old) }
+{
+    let width = columns(form).len();
+    let limit = most_records(form);
+    for number in 1..usize::MAX {
+        if !records.next(width, row)? {
+            return Ok(());
+        }
+        let place = sheet.place(form.table, number);
+        if is_past(limit, number) {
+            return tell(place, row, 0, What::TooMany, findings);
+        }
+        let entry = Record::of(form, place, row);
+        let named = look_up(&beside.items, &entry);
+        tell_record(width, beside, &named, seen, &entry, findings)?;
+        add_key(width, &entry, seen)?;
+    }
+    // More records than can be numbered.
+    Err(NoMemory)
+}
+
 // Tells what is wrong with a table's records below its header.
 pub(crate) fn tell_rows(
     alloc: Global,
@@ -94,25 +126,9 @@ pub(crate) fn tell_rows(
 ) -> Result<(), NoMemory>
     ensures { OnOk result (findings.new.items ≡ findings.old.items ++ told_from form beside.now sheet.now [] 1 records.old) }
 {
-    let width = columns(form).len();
-    let limit = most_records(form);
     let mut seen = Seen::new(alloc);
     let mut row = mrp_rows::Record::new(alloc);
-    for number in 1..usize::MAX {
-        if !records.next(width, &mut row)? {
-            return Ok(());
-        }
-        let place = sheet.place(form.table, number);
-        if is_past(limit, number) {
-            return tell(place, &row, 0, What::TooMany, findings);
-        }
-        let entry = Record::of(form, place, &row);
-        let named = look_up(&beside.items, &entry);
-        tell_record(width, beside, &named, &seen, &entry, findings)?;
-        add_key(width, &entry, &mut seen)?;
-    }
-    // More records than can be numbered.
-    Err(NoMemory)
+    tell_each(form, beside, sheet, records, &mut row, &mut seen, findings)
 }
 
 // The class that an item's record gives it.
@@ -138,7 +154,44 @@ fn add_name(width: usize, entry: &Record<'_>, names: &mut Known) -> Result<(), N
     }
 }
 
-// The same, with the names of these records; none if there are too many.
+// Tells the same as `tell_each`, and adds the names of these records. Returns whether all were read: not if there are too many.
+fn tell_each_named(
+    form: Form,
+    beside: &Beside,
+    sheet: &Sheet<'_>,
+    records: &mut Records<'_>,
+    row: &mut mrp_rows::Record,
+    seen: &mut Seen,
+    names: &mut Known,
+    findings: &mut Vec<Finding>,
+) -> Result<bool, NoMemory>
+    requires seen { seen.old ≡ [] }
+    requires names { names.old ≡ [] }
+    ensures told { OnOk result (findings.new.items ≡ findings.old.items ++ told_from form beside.now sheet.now [] 1 records.old) }
+    ensures names { IfOk result (λ is_all. (if is_all then Some names.new else None) ≡ names_in form sheet.now records.old) }
+{
+    let width = columns(form).len();
+    let limit = most_records(form);
+    for number in 1..usize::MAX {
+        if !records.next(width, row)? {
+            return Ok(true);
+        }
+        let place = sheet.place(form.table, number);
+        if is_past(limit, number) {
+            tell(place, row, 0, What::TooMany, findings)?;
+            return Ok(false);
+        }
+        let entry = Record::of(form, place, row);
+        let named = look_up(&beside.items, &entry);
+        tell_record(width, beside, &named, seen, &entry, findings)?;
+        add_key(width, &entry, seen)?;
+        add_name(width, &entry, names)?;
+    }
+    // More records than can be numbered.
+    Err(NoMemory)
+}
+
+// Tells what is wrong with a table's records below its header, and returns their names; none if there are too many.
 pub(crate) fn tell_named_rows(
     alloc: Global,
     form: Form,
@@ -150,26 +203,11 @@ pub(crate) fn tell_named_rows(
     ensures told { OnOk result (findings.new.items ≡ findings.old.items ++ told_from form beside.now sheet.now [] 1 records.old) }
     ensures names { IfOk result (λ names. names ≡ names_in form sheet.now records.old) }
 {
-    let width = columns(form).len();
-    let limit = most_records(form);
     let mut seen = Seen::new(alloc);
     let mut names = Known::new(alloc);
     let mut row = mrp_rows::Record::new(alloc);
-    for number in 1..usize::MAX {
-        if !records.next(width, &mut row)? {
-            return Ok(Some(names));
-        }
-        let place = sheet.place(form.table, number);
-        if is_past(limit, number) {
-            tell(place, &row, 0, What::TooMany, findings)?;
-            return Ok(None);
-        }
-        let entry = Record::of(form, place, &row);
-        let named = look_up(&beside.items, &entry);
-        tell_record(width, beside, &named, &seen, &entry, findings)?;
-        add_key(width, &entry, &mut seen)?;
-        add_name(width, &entry, &mut names)?;
-    }
-    // More records than can be numbered.
-    Err(NoMemory)
+    let is_all = tell_each_named(
+        form, beside, sheet, records, &mut row, &mut seen, &mut names, findings,
+    )?;
+    if is_all { Ok(Some(names)) } else { Ok(None) }
 }

@@ -1,11 +1,16 @@
 //! What is told of nine tables.
 
-ghost use Rattle.std.specs.Prelude.{◌≡◌, ◌<◌, ◌++◌, ◌∷◌, [], IfOk, None, OnOk, Some, false, map, option_map};
+ghost use Rattle.std.specs.Prelude.{◌≡◌, ◌<◌, ◌++◌, ◌∷◌, [], IfNone, IfOk, IfSome, List, None, OnOk, Some, false, map, option_map};
 ghost use Rattle.mrp_tables.specs.declared.version.Version.TheVariants.{One};
-ghost use Rattle.mrp_survey.specs.Survey.{FindsLoopsIn, calendar_among, calendar_told, dated_form, first_told, form_of, items_among, last_told, missing, missing_from, names_among, nothing_beside, records_at, rows_in, survey_told, table_told, version_among, version_of_items, versioned_told};
+ghost use Rattle.mrp_survey.specs.BillLines.{bill_lines};
+ghost use Rattle.mrp_survey.specs.BillParts.{has_key};
+ghost use Rattle.mrp_survey.specs.Forms.{AllCells};
+ghost use Rattle.mrp_survey.specs.Loops.{FindsLoops};
+ghost use Rattle.mrp_survey.specs.Records.{rows_below};
+ghost use Rattle.mrp_survey.specs.Survey.{FindsLoopsIn, calendar_among, calendar_told, dated_form, first_told, form_of, items_among, last_told, missing, missing_from, names_among, names_by, nothing_beside, records_at, rows_in, survey_told, table_told, version_among, version_of_items, versioned_told};
 ghost use Rattle.mrp_survey.specs.InTwo.{IsFirstTold};
 
-use crate::bill_lines::tell_bill_lines;
+use crate::bill_lines::{BillLine, tell_bill_lines};
 use crate::calendar::{calendar_in, has_version, version_in};
 use crate::finding::{Finding, Place, What, tell};
 use crate::finding_loops::loops_among;
@@ -13,6 +18,7 @@ use crate::form::{Form, dated_key, entry_place};
 use crate::found_loop::FoundLoop;
 use crate::header::can_be_read;
 use crate::known::Known;
+use crate::likes::Likes;
 use crate::rule::Beside;
 use crate::sheet::Sheet;
 use crate::source::Source;
@@ -71,6 +77,19 @@ fn tell_table(
         Some(mut records) => tell_rows(alloc, form, beside, sheet, &mut records, findings),
         None => Ok(()),
     }
+}
+
+// The same of a table that looks at no other.
+fn tell_alone(
+    alloc: Global,
+    form: Form,
+    sheet: &Option<Sheet<'_>>,
+    findings: &mut Vec<Finding>,
+) -> Result<(), NoMemory>
+    ensures { OnOk result (findings.new.items ≡ findings.old.items ++ table_told form nothing_beside sheet.now) }
+{
+    let beside = nothing_beside();
+    tell_table(alloc, form, &beside, sheet, findings)
 }
 
 // The records below a table's header, if that can be read.
@@ -163,19 +182,20 @@ fn tell_missing(
     Ok(())
 }
 
-// Tells what is wrong with the calendar.
-fn tell_calendar(
+// Tells what is wrong with the calendar's records.
+fn tell_dates(
     alloc: Global,
     sources: &[Option<Source<'_>>; 9],
+    sheet: &Option<Sheet<'_>>,
     findings: &mut Vec<Finding>,
 ) -> Result<Dated, NoMemory>
+    requires { sheet.now ≡ records_at sources.now Table.Calendar }
     ensures told { OnOk result (findings.new.items ≡ findings.old.items ++ calendar_told sources.now) }
     ensures dated { IfOk result (λ dated. dated ≡ record { version = version_among sources.now; calendar = calendar_among sources.now }) }
 {
-    let sheet = sheet_of(alloc, sources, Table::Calendar)?;
-    let form = dated_form(alloc, &sheet)?;
-    tell_table(alloc, form, &nothing_beside(), &sheet, findings)?;
-    let Some(sheet) = &sheet else {
+    let form = dated_form(alloc, sheet)?;
+    tell_alone(alloc, form, sheet, findings)?;
+    let Some(sheet) = sheet else {
         return no_dates(alloc, sources);
     };
     let Some(rows) = sheet.all_below(alloc, form)? else {
@@ -186,6 +206,19 @@ fn tell_calendar(
         version: version_in(form, &rows),
         calendar: calendar_in(form, &rows),
     })
+}
+
+// Tells what is wrong with the calendar.
+fn tell_calendar(
+    alloc: Global,
+    sources: &[Option<Source<'_>>; 9],
+    findings: &mut Vec<Finding>,
+) -> Result<Dated, NoMemory>
+    ensures told { OnOk result (findings.new.items ≡ findings.old.items ++ calendar_told sources.now) }
+    ensures dated { IfOk result (λ dated. dated ≡ record { version = version_among sources.now; calendar = calendar_among sources.now }) }
+{
+    let sheet = sheet_of(alloc, sources, Table::Calendar)?;
+    tell_dates(alloc, sources, &sheet, findings)
 }
 
 // The version whose columns the items' header has.
@@ -215,6 +248,30 @@ fn no_dates(alloc: Global, sources: &[Option<Source<'_>>; 9]) -> Result<Dated, N
     })
 }
 
+// Tells what is wrong with records that look at no other table, and returns their names, if they were read to their end.
+fn tell_names(
+    alloc: Global,
+    form: Form,
+    sheet: &Sheet<'_>,
+    findings: &mut Vec<Finding>,
+) -> Result<Option<Known>, NoMemory>
+    ensures told { OnOk result (findings.new.items ≡ findings.old.items ++ table_told form nothing_beside (Some sheet.now)) }
+    ensures names { IfOk result (λ names. names ≡ names_by form (Some sheet.now)) }
+{
+    tell_header(alloc, form, sheet, findings)?;
+    match sheet.rows_below(alloc, form)? {
+        Some(mut rows) => tell_named_rows(
+            alloc,
+            form,
+            &nothing_beside(),
+            sheet,
+            &mut rows,
+            findings,
+        ),
+        None => Ok(None),
+    }
+}
+
 // Tells what is wrong with the items or the work centres, and returns their names, if the table was read to its end.
 fn tell_named(
     alloc: Global,
@@ -225,13 +282,8 @@ fn tell_named(
     ensures told { OnOk result (findings.new.items ≡ findings.old.items ++ table_told form nothing_beside (records_at sources.now form.table)) }
     ensures names { IfOk result (λ names. names ≡ names_among sources.now form) }
 {
-    let Some(sheet) = sheet_of(alloc, sources, form.table)? else {
-        return Ok(None);
-    };
-    tell_header(alloc, form, &sheet, findings)?;
-    let beside = nothing_beside();
-    match sheet.rows_below(alloc, form)? {
-        Some(mut rows) => tell_named_rows(alloc, form, &beside, &sheet, &mut rows, findings),
+    match sheet_of(alloc, sources, form.table)? {
+        Some(sheet) => tell_names(alloc, form, &sheet, findings),
         None => Ok(None),
     }
 }
@@ -278,6 +330,52 @@ struct FirstTold {
     loops: Vec<FoundLoop>,
 }
 
+// Tells what is wrong with a table in which no record has something to itself, and returns the bill lines among its records that lead
+// from item to item, if these can be read.
+fn tell_lines(
+    rt: &impl Threads,
+    alloc: Global,
+    form: Form,
+    beside: &Beside,
+    sheet: &Sheet<'_>,
+    findings: &mut Vec<Finding>,
+) -> Result<Option<Vec<BillLine>>, NoMemory>
+    requires { has_key form.table ≡ false }
+    ensures told { OnOk result (findings.new.items ≡ findings.old.items ++ table_told form beside.now (Some sheet.now)) }
+    ensures lines { IfOk result (λ lines. IfSome lines (λ own. (rows : List AllCells) × (rows_below form sheet.now ≡ Some rows) × (own.items ≡ bill_lines form beside.now.items sheet.now rows))) }
+    ensures none { IfOk result (λ lines. IfNone lines (rows_below form sheet.now ≡ None)) }
+{
+    tell_header(alloc, form, sheet, findings)?;
+    let Some(mut rows) = sheet.rows_below(alloc, form)? else {
+        return Ok(None);
+    };
+    let Some(mut again) = sheet.rows_below(alloc, form)? else {
+        return Ok(None);
+    };
+    let lines = tell_bill_lines(
+        rt, alloc, form, beside, sheet, &mut rows, &mut again, findings,
+    )?;
+    Ok(Some(lines))
+}
+
+// Tells what is wrong with the bills' records, and returns the sets of items that need one another.
+fn tell_loops(
+    rt: &impl Threads,
+    alloc: Global,
+    beside: &Beside,
+    sheet: &Sheet<'_>,
+    findings: &mut Vec<Finding>,
+) -> Result<Vec<FoundLoop>, NoMemory>
+    ensures told { OnOk result (findings.new.items ≡ findings.old.items ++ table_told (form_of Table.Bills One) beside.now (Some sheet.now)) }
+    ensures loops { IfOk result (λ loops. FindsLoops (form_of Table.Bills One) beside.now.items (Some sheet.now) loops.items) }
+{
+    let form = form_of(Table::Bills, Version::One);
+    let Some(lines) = tell_lines(rt, alloc, form, beside, sheet, findings)? else {
+        return Ok(Vec::new(alloc));
+    };
+    loops_among(alloc, &beside.items, sheet, &lines)
+}
+
 // Tells what is wrong with the bills, and returns the sets of items that need one another.
 fn tell_bills(
     rt: &impl Threads,
@@ -289,21 +387,10 @@ fn tell_bills(
     ensures told { OnOk result (findings.new.items ≡ findings.old.items ++ versioned_told sources.now beside.now Table.Bills (Some One)) }
     ensures loops { IfOk result (λ loops. FindsLoopsIn sources.now beside.now.items loops.items) }
 {
-    let form = form_of(Table::Bills, Version::One);
-    let Some(sheet) = sheet_of(alloc, sources, Table::Bills)? else {
-        return Ok(Vec::new(alloc));
-    };
-    tell_header(alloc, form, &sheet, findings)?;
-    let Some(mut rows) = sheet.rows_below(alloc, form)? else {
-        return Ok(Vec::new(alloc));
-    };
-    let Some(mut again) = sheet.rows_below(alloc, form)? else {
-        return Ok(Vec::new(alloc));
-    };
-    let lines = tell_bill_lines(
-        rt, alloc, form, beside, &sheet, &mut rows, &mut again, findings,
-    )?;
-    loops_among(alloc, &beside.items, &sheet, &lines)
+    match sheet_of(alloc, sources, Table::Bills)? {
+        Some(sheet) => tell_loops(rt, alloc, beside, &sheet, findings),
+        None => Ok(Vec::new(alloc)),
+    }
 }
 
 // Takes findings out, and tells behind them what is wrong with the tables from the stock to the bills.
@@ -327,8 +414,31 @@ fn tell_first(
     })
 }
 
+// Tells what is wrong with the master schedule, which is read only where the version is right.
+fn tell_master(
+    rt: &impl Threads,
+    alloc: Global,
+    sources: &[Option<Source<'_>>; 9],
+    beside: &Beside,
+    version: Option<Version>,
+    findings: &mut Vec<Finding>,
+) -> Result<(), NoMemory>
+    ensures { OnOk result (findings.new.items ≡ findings.old.items ++ versioned_told sources.now beside.now Table.Master version) }
+{
+    let Some(version) = version else {
+        return Ok(());
+    };
+    let form = form_of(Table::Master, version);
+    let Some(sheet) = sheet_of(alloc, sources, Table::Master)? else {
+        return Ok(());
+    };
+    let _ = tell_lines(rt, alloc, form, beside, &sheet, findings)?;
+    Ok(())
+}
+
 // What is told of the tables behind the bills.
 fn tell_last(
+    rt: &impl Threads,
     alloc: Global,
     sources: &[Option<Source<'_>>; 9],
     beside: &Beside,
@@ -337,29 +447,31 @@ fn tell_last(
     ensures { IfOk result (λ findings. findings.items ≡ last_told sources.now beside.now version) }
 {
     let first = Some(Version::One);
-    let mut findings = Vec::new(alloc);
-    tell_other(
-        alloc,
-        sources,
-        beside,
-        Table::Routings,
-        first,
-        &mut findings,
-    )?;
-    tell_other(
-        alloc,
-        sources,
-        beside,
-        Table::Master,
-        version,
-        &mut findings,
-    )?;
-    tell_other(alloc, sources, beside, Table::Script, first, &mut findings)?;
-    Ok(findings)
+    let mut own = Vec::new(alloc);
+    tell_other(alloc, sources, beside, Table::Routings, first, &mut own)?;
+    tell_master(rt, alloc, sources, beside, version, &mut own)?;
+    tell_other(alloc, sources, beside, Table::Script, first, &mut own)?;
+    Ok(own)
 }
 
-// Tells what is wrong with the tables that look at others, in two threads if a second one can be started, and returns the sets of
-// items that need one another.
+// Puts what is told last behind what is told first, in place of the findings before.
+fn put_last(
+    first: FirstTold,
+    last: Vec<Finding>,
+    findings: &mut Vec<Finding>,
+) -> Result<Vec<FoundLoop>, NoMemory>
+    ensures findings { OnOk result (findings.new.items ≡ first.findings.items ++ last.items) }
+    ensures loops { IfOk result (λ loops. loops ≡ first.loops) }
+{
+    let mut first = first;
+    let mut last = last;
+    first.findings.append(&mut last)?;
+    *findings = first.findings;
+    Ok(first.loops)
+}
+
+// Tells what is wrong with the tables that look at others, in two threads and two more if they can be started, and returns the sets
+// of items that need one another.
 fn tell_others(
     rt: &(impl Threads + Sync),
     alloc: Global,
@@ -373,17 +485,28 @@ fn tell_others(
 {
     let read_last = move || -> Result<Vec<Finding>, NoMemory>
         ensures { IfOk result (λ findings. findings.items ≡ last_told sources.entry.now beside.entry.now version) }
-    { tell_last(alloc, sources, beside, version) };
+    { tell_last(rt, alloc, sources, beside, version) };
     let before = &mut *findings;
     let read_first = move || -> Result<FirstTold, NoMemory>
         ensures { IfOk result (IsFirstTold sources.entry.now beside.entry.now before.entry.now.items) }
     { tell_first(rt, alloc, sources, beside, before) };
     let (last, first) = thread::join(rt, read_last, read_first);
-    let mut first = first?;
-    let mut last = last?;
-    first.findings.append(&mut last)?;
-    *findings = first.findings;
-    Ok(first.loops)
+    let first = first?;
+    let last = last?;
+    put_last(first, last, findings)
+}
+
+// Both tables' names with what look-ups of other names need.
+fn likes_of_both(
+    alloc: Global,
+    items: Option<Known>,
+    centres: Option<Known>,
+) -> Result<(Option<Likes>, Option<Likes>), NoMemory>
+    ensures { IfOk result (λ likes. (likes.0 ≡ items) × (likes.1 ≡ centres)) }
+{
+    let items = likes_of(alloc, items)?;
+    let centres = likes_of(alloc, centres)?;
+    Ok((items, centres))
 }
 
 fn surveyed(
@@ -395,8 +518,7 @@ fn surveyed(
 ) -> Result<Survey, NoMemory>
     ensures { IfOk result (λ survey. survey ≡ record { findings = findings.items; loops = loops.items; version = version; calendar = beside.calendar; items = beside.items; centres = beside.centres }) }
 {
-    let items = likes_of(alloc, beside.items)?;
-    let centres = likes_of(alloc, beside.centres)?;
+    let (items, centres) = likes_of_both(alloc, beside.items, beside.centres)?;
     Ok(Survey {
         findings,
         loops,
@@ -407,9 +529,29 @@ fn surveyed(
     })
 }
 
+// Tells what is wrong with the items and the work centres, and returns what other tables look at.
+fn tell_beside(
+    alloc: Global,
+    sources: &[Option<Source<'_>>; 9],
+    dated: Dated,
+    findings: &mut Vec<Finding>,
+) -> Result<Beside, NoMemory>
+    ensures told { OnOk result (findings.new.items ≡ findings.old.items ++ versioned_told sources.now nothing_beside Table.Items dated.version ++ table_told (form_of Table.Centres One) nothing_beside (records_at sources.now Table.Centres)) }
+    ensures beside { IfOk result (λ beside. beside ≡ record { items = items_among sources.now dated.version; centres = names_among sources.now (form_of Table.Centres One); calendar = dated.calendar }) }
+{
+    let items = tell_items(alloc, sources, dated.version, findings)?;
+    let centres = form_of(Table::Centres, Version::One);
+    let centres = tell_named(alloc, sources, centres, findings)?;
+    Ok(Beside {
+        items,
+        centres,
+        calendar: dated.calendar,
+    })
+}
+
 /// All that is wrong with the records of nine tables, which stand in the order of the tables; a table without a text is not read.
 ///
-/// The tables behind the work centres are read in up to three threads, as many as can be started.
+/// The tables behind the work centres are read in up to four threads, as many as can be started.
 ///
 /// Errors: `NoMemory` if an allocation fails.
 pub fn survey(
@@ -426,14 +568,8 @@ pub fn survey(
 {
     let mut findings = Vec::new(alloc);
     let dated = tell_calendar(alloc, sources, &mut findings)?;
-    let items = tell_items(alloc, sources, dated.version, &mut findings)?;
-    let centres = form_of(Table::Centres, Version::One);
-    let centres = tell_named(alloc, sources, centres, &mut findings)?;
-    let beside = Beside {
-        items,
-        centres,
-        calendar: dated.calendar,
-    };
-    let loops = tell_others(rt, alloc, sources, &beside, dated.version, &mut findings)?;
-    surveyed(alloc, findings, loops, dated.version, beside)
+    let version = dated.version;
+    let beside = tell_beside(alloc, sources, dated, &mut findings)?;
+    let loops = tell_others(rt, alloc, sources, &beside, version, &mut findings)?;
+    surveyed(alloc, findings, loops, version, beside)
 }

@@ -6,10 +6,13 @@ ghost use Rattle.clap.specs.Simple.{app_of};
 ghost use Rattle.clap.specs.Walk.{rows_of, rule_of};
 ghost use Rattle.mrp_words.specs.Words.{HasCarryWords, HasNoGlobals, carry_app, numbers_rule, start_rule};
 
-use crate::command::{EXAMPLE, text_in};
-use crate::options::required_dir;
+use crate::command::{explained, text_in};
+use crate::options::{required_dir, valued};
 use clap::{Arg, ArgAction, ArgMatches, Command};
 use std::alloc::{AllocError, Global};
+
+const LINE_CARRY: &str =
+    "Writes the beginning of the next period's script, from the bookings that stand in a folder's";
 
 const ABOUT_CARRY: &str =
     "Reads the tables that a folder has as files, answers the calls of their script in order, and writes the bookings
@@ -44,12 +47,7 @@ fn start<'a>(alloc: Global) -> Arg<'a>
     ensures rule { rule_of result ≡ start_rule }
     ensures local { result.global ≡ false }
 {
-    Arg::new(alloc, "start")
-        .long("start")
-        .value_name("DATE")
-        .action(ArgAction::Set)
-        .required(true)
-        .help(ABOUT_START)
+    valued(alloc, "start", "DATE", ABOUT_START).required(true)
 }
 
 fn numbers<'a>(alloc: Global) -> Arg<'a>
@@ -66,12 +64,7 @@ pub(crate) fn carry_command<'a>(alloc: Global) -> Result<Command<'a>, AllocError
     ensures app { IfOk result (λ made. app_of made ≡ carry_app) }
     ensures local { IfOk result HasNoGlobals }
 {
-    Command::new(alloc, "carry")
-        .about(
-            "Writes the beginning of the next period's script, from the bookings that stand in a folder's",
-        )
-        .long_about(ABOUT_CARRY)
-        .after_help(EXAMPLE)
+    explained(alloc, "carry", LINE_CARRY, ABOUT_CARRY)
         .arg(required_dir(alloc, ABOUT_FOLDER))?
         .arg(start(alloc))?
         .arg(numbers(alloc))

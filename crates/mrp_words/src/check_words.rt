@@ -4,10 +4,13 @@ ghost use Rattle.std.specs.Prelude.{◌≡◌, IfOk};
 ghost use Rattle.clap.specs.Simple.{app_of};
 ghost use Rattle.mrp_words.specs.Words.{HasNoGlobals, check_app};
 
-use crate::command::EXAMPLE;
+use crate::command::explained;
 use crate::options::required_dir;
 use clap::Command;
 use std::alloc::{AllocError, Global};
+
+const LINE_CHECK: &str =
+    "Says whether a day from standard input is a right day of the files of a folder";
 
 const ABOUT_CHECK: &str =
     "Reads a day from standard input, as `mrp plan` and `mrp live` write it, and says on standard output whether it
@@ -29,9 +32,5 @@ pub(crate) fn check_command<'a>(alloc: Global) -> Result<Command<'a>, AllocError
     ensures app { IfOk result (λ made. app_of made ≡ check_app) }
     ensures local { IfOk result HasNoGlobals }
 {
-    Command::new(alloc, "check")
-        .about("Says whether a day from standard input is a right day of the files of a folder")
-        .long_about(ABOUT_CHECK)
-        .after_help(EXAMPLE)
-        .arg(required_dir(alloc, ABOUT_FOLDER))
+    explained(alloc, "check", LINE_CHECK, ABOUT_CHECK).arg(required_dir(alloc, ABOUT_FOLDER))
 }

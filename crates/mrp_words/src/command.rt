@@ -1,10 +1,10 @@
 //! What the words of the command line ask for, parsed by `clap`.
 
-ghost use Rattle.std.specs.Prelude.{◌≡◌, ℕ, IfErr, IfOk, Some, codes, map, option_map, string_bytes};
+ghost use Rattle.std.specs.Prelude.{◌≡◌, ℕ, IfErr, IfOk, Some, codes, map, option_map, string_bytes, true};
 ghost use Rattle.std.specs.Int.{IsInRange};
 ghost use Rattle.clap.specs.Matches.{first_value, found_of};
 ghost use Rattle.clap.specs.Values.{kind_of};
-ghost use Rattle.clap.specs.Simple.{app_of, subcommand_rows_of};
+ghost use Rattle.clap.specs.Simple.{App, app_of, new_app, on_top, subcommand_rows_of, with_subcommand};
 ghost use Rattle.mrp_words.specs.Help.{help_line, help_text};
 ghost use Rattle.mrp_words.specs.Words.{Asks, Enters, EntersCheckOrDay, EntersUncarried, EntersUninspected, EntersUnpaged, HasFolder, HasNoGlobals, HasWorkers, IsAsAsked, IsBy, IsEntered, IsOfKind, day_app, dir_among, mrp_command};
 
@@ -68,7 +68,7 @@ Bundles, --dir and the sections that are written are those of `mrp plan`: see `m
 const ABOUT_DIR: &str =
     "A folder, whose files calendar.csv, items.csv and so on are planned in place of standard input";
 
-pub(crate) const EXAMPLE: &str = "Examples:
+const EXAMPLE: &str = "Examples:
   mrp plan < shop.bundle > shop.day
   mrp plan --dir shop > shop.day
   mrp live < shop.bundle > shop.day
@@ -139,36 +139,65 @@ fn help_of<'a>(command: DayCommand) -> (&'a str, &'a str)
     }
 }
 
+// A command without options yet: its word, and its help in a line and in full.
+pub(crate) fn explained<'a>(
+    alloc: Global,
+    word: &'a str,
+    line: &'a str,
+    text: &'a str,
+) -> Command<'a>
+    ensures app { app_of result ≡ new_app word.entry.now }
+    ensures local { HasNoGlobals result }
+{
+    Command::new(alloc, word)
+        .about(line)
+        .long_about(text)
+        .after_help(EXAMPLE)
+}
+
 fn day_command<'a>(alloc: Global, command: DayCommand) -> Result<Command<'a>, AllocError>
     ensures app { IfOk result (λ made. app_of made ≡ day_app command) }
     ensures local { IfOk result HasNoGlobals }
 {
     let (line, text) = help_of(command);
-    Command::new(alloc, command.word())
-        .about(line)
-        .long_about(text)
-        .after_help(EXAMPLE)
+    explained(alloc, command.word(), line, text)
         .arg(workers(alloc))?
         .arg(dir(alloc, ABOUT_DIR))
 }
 
-fn command<'a>(alloc: Global) -> Result<Command<'a>, AllocError>
-    ensures { IfOk result (λ command. app_of command ≡ mrp_command) }
+// The program, still without its commands.
+fn program<'a>(alloc: Global) -> Result<Command<'a>, AllocError>
+    ensures { IfOk result (λ made. app_of made ≡ on_top (λ s. record s { has_version = true; no_binary_name = true; subcommand_required = true }) (new_app (codes "mrp"))) }
 {
     Command::new(alloc, "mrp")
         .about(ABOUT)
         .version(VERSION)
         .after_help(EXAMPLE)
-        .bin_name("mrp")?
         .no_binary_name(true)
         .subcommand_required(true)
-        .subcommand(day_command(alloc, DayCommand::Plan)?)?
-        .subcommand(day_command(alloc, DayCommand::Live)?)?
-        .subcommand(page_command(alloc)?)?
-        .subcommand(check_command(alloc)?)?
-        .subcommand(carry_command(alloc)?)?
-        .subcommand(inspect_command(alloc)?)?
-        .subcommand(desk_command(alloc)?)
+        .bin_name("mrp")
+}
+
+// Adds a command, if memory was there for both.
+fn with_command<'a>(
+    all: Result<Command<'a>, AllocError>,
+    own: Result<Command<'a>, AllocError>,
+) -> Result<Command<'a>, AllocError>
+    ensures { (stood added : App) → IfOk all.entry (λ c. app_of c ≡ stood) → IfOk own.entry (λ c. app_of c ≡ added) → IfOk own.entry HasNoGlobals → IfOk result (λ c. app_of c ≡ with_subcommand stood added.top) }
+{
+    all?.subcommand(own?)
+}
+
+fn command<'a>(alloc: Global) -> Result<Command<'a>, AllocError>
+    ensures { IfOk result (λ command. app_of command ≡ mrp_command) }
+{
+    let all = with_command(program(alloc), day_command(alloc, DayCommand::Plan));
+    let all = with_command(all, day_command(alloc, DayCommand::Live));
+    let all = with_command(all, page_command(alloc));
+    let all = with_command(all, check_command(alloc));
+    let all = with_command(all, carry_command(alloc));
+    let all = with_command(all, inspect_command(alloc));
+    with_command(all, desk_command(alloc))
 }
 
 // Why `clap` gave no matches, with its text.

@@ -4,10 +4,13 @@ ghost use Rattle.std.specs.Prelude.{◌≡◌, IfOk};
 ghost use Rattle.clap.specs.Simple.{app_of};
 ghost use Rattle.mrp_words.specs.Words.{HasNoGlobals, desk_app};
 
-use crate::command::EXAMPLE;
+use crate::command::explained;
 use crate::options::{required_dir, workers};
 use clap::Command;
 use std::alloc::{AllocError, Global};
+
+const LINE_DESK: &str =
+    "Answers calls from standard input, one a line, and keeps each in the folder's script.csv";
 
 const ABOUT_DESK: &str =
     "Reads the tables that a folder has as files, takes up the calls in its script.csv, and then reads calls from
@@ -36,12 +39,7 @@ pub(crate) fn desk_command<'a>(alloc: Global) -> Result<Command<'a>, AllocError>
     ensures app { IfOk result (λ made. app_of made ≡ desk_app) }
     ensures local { IfOk result HasNoGlobals }
 {
-    Command::new(alloc, "desk")
-        .about(
-            "Answers calls from standard input, one a line, and keeps each in the folder's script.csv",
-        )
-        .long_about(ABOUT_DESK)
-        .after_help(EXAMPLE)
+    explained(alloc, "desk", LINE_DESK, ABOUT_DESK)
         .arg(workers(alloc))?
         .arg(required_dir(alloc, ABOUT_FOLDER))
 }

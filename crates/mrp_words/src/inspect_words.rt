@@ -4,10 +4,12 @@ ghost use Rattle.std.specs.Prelude.{◌≡◌, IfOk};
 ghost use Rattle.clap.specs.Simple.{app_of};
 ghost use Rattle.mrp_words.specs.Words.{HasNoGlobals, inspect_app};
 
-use crate::command::EXAMPLE;
+use crate::command::explained;
 use crate::options::required_dir;
 use clap::Command;
 use std::alloc::{AllocError, Global};
+
+const LINE_INSPECT: &str = "Tells all faults of the tables that a folder has as files, or warnings";
 
 const ABOUT_INSPECT: &str =
     "Reads the tables that a folder has as files, and writes a line for each of their faults to standard output:
@@ -28,9 +30,5 @@ pub(crate) fn inspect_command<'a>(alloc: Global) -> Result<Command<'a>, AllocErr
     ensures app { IfOk result (λ made. app_of made ≡ inspect_app) }
     ensures local { IfOk result HasNoGlobals }
 {
-    Command::new(alloc, "inspect")
-        .about("Tells all faults of the tables that a folder has as files, or warnings")
-        .long_about(ABOUT_INSPECT)
-        .after_help(EXAMPLE)
-        .arg(required_dir(alloc, ABOUT_FOLDER))
+    explained(alloc, "inspect", LINE_INSPECT, ABOUT_INSPECT).arg(required_dir(alloc, ABOUT_FOLDER))
 }

@@ -6,11 +6,13 @@ ghost use Rattle.clap.specs.Simple.{app_of};
 ghost use Rattle.clap.specs.Walk.{rows_of, rule_of};
 ghost use Rattle.mrp_words.specs.Words.{HasNoGlobals, HasPageWords, items_rule, page_app, run_rule, title_rule};
 
-use crate::command::{EXAMPLE, text_in};
-use crate::options::dir;
+use crate::command::{explained, text_in};
+use crate::options::{dir, valued};
 use clap::builder::ValueParser;
-use clap::{Arg, ArgAction, ArgMatches, Command};
+use clap::{Arg, ArgMatches, Command};
 use std::alloc::{AllocError, Global};
+
+const LINE_PAGE: &str = "Draws a day from standard input as a page that a browser opens";
 
 const ABOUT_PAGE: &str =
     "Reads a day from standard input, as `mrp plan` and `mrp live` write it, and writes one page of HTML that
@@ -49,44 +51,28 @@ fn run<'a>(alloc: Global) -> Arg<'a>
     ensures rule { rule_of result ≡ run_rule }
     ensures local { result.global ≡ false }
 {
-    Arg::new(alloc, "run")
-        .long("run")
-        .value_name("K")
-        .action(ArgAction::Set)
-        .help(ABOUT_RUN)
-        .value_parser(ValueParser::Unsigned(1, u64::MAX))
+    valued(alloc, "run", "K", ABOUT_RUN).value_parser(ValueParser::Unsigned(1, u64::MAX))
 }
 
 fn items<'a>(alloc: Global) -> Arg<'a>
     ensures rule { rule_of result ≡ items_rule }
     ensures local { result.global ≡ false }
 {
-    Arg::new(alloc, "items")
-        .long("items")
-        .value_name("A,B")
-        .action(ArgAction::Set)
-        .help(ABOUT_ITEMS)
+    valued(alloc, "items", "A,B", ABOUT_ITEMS)
 }
 
 fn title<'a>(alloc: Global) -> Arg<'a>
     ensures rule { rule_of result ≡ title_rule }
     ensures local { result.global ≡ false }
 {
-    Arg::new(alloc, "title")
-        .long("title")
-        .value_name("TEXT")
-        .action(ArgAction::Set)
-        .help(ABOUT_TITLE)
+    valued(alloc, "title", "TEXT", ABOUT_TITLE)
 }
 
 pub(crate) fn page_command<'a>(alloc: Global) -> Result<Command<'a>, AllocError>
     ensures app { IfOk result (λ made. app_of made ≡ page_app) }
     ensures local { IfOk result HasNoGlobals }
 {
-    Command::new(alloc, "page")
-        .about("Draws a day from standard input as a page that a browser opens")
-        .long_about(ABOUT_PAGE)
-        .after_help(EXAMPLE)
+    explained(alloc, "page", LINE_PAGE, ABOUT_PAGE)
         .arg(run(alloc))?
         .arg(items(alloc))?
         .arg(title(alloc))?

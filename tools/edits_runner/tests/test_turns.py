@@ -6,7 +6,8 @@ from .. import command
 from ..edit_files import edits_of
 from ..together import Waiting, edits_now
 from ..toolchain import NAMING
-from ..turns import LANDED, TURNS, NoTurn, Turn, turn_at, waits
+from ..changes import Changes, NoTurn
+from ..turns import LANDED, TURNS, Turn, turn_at, waits
 from .made_up import Crate, InAFolder
 
 
@@ -20,11 +21,11 @@ class Turns(InAFolder):
         low = Crate("low", f"{self.room}/low", deps=[lowest])
         return Crate("own", f"{self.room}/own", deps=[low])
 
-    def waiting(self, crate, changed=(), edits=()):
-        """The names of the edits that wait, turn by turn."""
+    def waiting(self, crate, **changes):
+        """The names of the edits that wait, turn by turn, where this has changed."""
         good, bad = edits_of(crate, [])
         self.assertEqual(bad, [])
-        turns = [Turn(number, "", frozenset(changed), frozenset(edits)) for number in range(TURNS)]
+        turns = [Turn(number, "", Changes(**changes)) for number in range(TURNS)]
         return [[edit.name for edit in good if waits(crate, edit, turn)] for turn in turns]
 
     def test_each_is_tried_in_one_turn(self):
@@ -40,18 +41,28 @@ class Turns(InAFolder):
         for names in self.waiting(own):
             self.assertEqual([f"b{it[1:]}" for it in names if it[0] == "a"], [it for it in names if it[0] == "b"])
 
-    def test_none_waits_where_its_crate_or_one_below_has_changed(self):
+    def test_none_waits_where_the_interface_of_its_crate_or_of_one_below_has_changed(self):
         own = self.lay_own(9)
         for name in ("own", "low", "lowest"):
-            self.assertEqual(self.waiting(own, changed=[name]), [[]] * TURNS, name)
-        self.assertEqual(self.waiting(own, changed=["another"]), self.waiting(own))
+            self.assertEqual(self.waiting(own, interfaces={name}), [[]] * TURNS, name)
+        self.assertEqual(self.waiting(own, interfaces={"another"}), self.waiting(own))
+
+    def test_the_inside_of_a_crate_below_is_not_seen(self):
+        own = self.lay_own(9)
+        self.assertEqual(self.waiting(own, insides={"own"}), [[]] * TURNS)
+        self.assertEqual(self.waiting(own, insides={"low"}), self.waiting(own))
+
+    def test_an_edit_of_a_function_that_has_changed_does_not_wait(self):
+        waiting = self.waiting(self.lay_own(9), functions={"own::add_3", "low::add_4"})
+        counts = [sum(f"a_sum_of_{at}.edit" in it for it in waiting) for at in (3, 4)]
+        self.assertEqual(counts, [0, TURNS - 1])
 
     def test_none_waits_where_there_is_no_turn(self):
         own = self.lay_own(9)
         self.assertFalse(any(waits(own, edit, None) for edit in edits_of(own, [])[0]))
 
     def test_one_that_has_changed_does_not_wait(self):
-        waiting = self.waiting(self.lay_own(9), edits=["own/a_sum_of_3.edit", "low/a_sum_of_4.edit"])
+        waiting = self.waiting(self.lay_own(9), edits={"own/a_sum_of_3.edit", "low/a_sum_of_4.edit"})
         counts = [sum(f"a_sum_of_{at}.edit" in it for it in waiting) for at in (3, 4)]
         self.assertEqual(counts, [0, TURNS - 1])
 
@@ -102,7 +113,7 @@ class ByGit(InAFolder):
         self.second = self.commit()
 
     def changed(self):
-        return turn_at(self.room, KIT).changed
+        return turn_at(self.room, KIT).changes.interfaces
 
     def assert_no_turn(self, why, top=None, version=KIT):
         with self.assertRaisesRegex(NoTurn, why):
@@ -110,27 +121,29 @@ class ByGit(InAFolder):
 
     def test_nothing_has_changed(self):
         turn = turn_at(self.room, KIT)
-        self.assertEqual((turn.landed, turn.changed, turn.edits), (self.first, frozenset(), frozenset()))
+        self.assertEqual((turn.landed, turn.changes), (self.first, Changes()))
         self.assertIn(turn.number, range(TURNS))
 
     def test_crates_change_by_commits_and_by_what_none_has(self):
-        self.lay("crates/one/src/lib.rt", "//! The one.\n")
+        self.lay("crates/one/src/lib.rt", "pub mod one;\n")
         self.assertEqual(self.changed(), {"one"})
         self.commit()
         self.assertEqual(self.changed(), {"one"})
-        self.lay("crates/three/proofs/Three.antt", "-- Three.\n")
+        self.lay("crates/three/specs/Three.antt", "-- Three.\n")
         self.assertEqual(self.changed(), {"one", "three"})
         os.remove(f"{self.room}/crates/two/specs/Two.antt")
         self.assertEqual(self.changed(), {"one", "two", "three"})
 
     def test_a_file_that_moves_changes_both_crates(self):
-        os.rename(f"{self.room}/crates/one/src/lib.rt", f"{self.room}/crates/two/lib.rt")
+        self.lay("crates/two/src/lib.rt", "pub mod one;\n")
+        self.lay(LANDED, f"{self.commit()}\n")
+        os.rename(f"{self.room}/crates/two/src/lib.rt", f"{self.room}/crates/one/lib.rt")
         self.assertEqual(self.changed(), {"one", "two"})
         self.commit()
         self.assertEqual(self.changed(), {"one", "two"})
 
     def test_a_name_that_git_would_quote(self):
-        self.lay("crates/one/src/ä b.rt", "//! One.\n")
+        self.lay("crates/one/src/ä b.rt", "pub mod one;\n")
         self.assertEqual(self.changed(), {"one"})
         self.commit()
         self.assertEqual(self.changed(), {"one"})
@@ -143,7 +156,7 @@ class ByGit(InAFolder):
         self.lay("crates/one/edits/a.edit", "of: add\n")
         self.lay("crates/one/must-fail/more/b.edit", "of: add\n")
         turn = turn_at(self.room, KIT)
-        self.assertEqual((turn.changed, turn.edits), (frozenset(), {"one/a.edit", "one/b.edit"}))
+        self.assertEqual(turn.changes, Changes(edits={"one/a.edit", "one/b.edit"}))
 
     def test_another_toolchain(self):
         self.assert_no_turn("was proved with rattle-kit-0", version="rattle-kit-1")
@@ -183,7 +196,7 @@ class ByGit(InAFolder):
     def test_it_is_said_why_none_waits(self):
         with patch.object(command.toolchain, "version", lambda: KIT), patch("builtins.print") as said:
             self.assertEqual(command.turn_told(self.room).landed, self.first)
-            self.assertIn("0 crates have changed", said.call_args[0][0])
+            self.assertIn("the interfaces of 0 crates have changed", said.call_args[0][0])
             os.remove(f"{self.room}/{LANDED}")
             self.assertIsNone(command.turn_told(self.room))
             self.assertIn("no edit waits for another turn", said.call_args[0][0])

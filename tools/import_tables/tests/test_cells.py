@@ -6,7 +6,7 @@ import unittest
 
 from ..dates import Dates, Order
 from ..found import Shown, letters
-from ..laid_out import ranges
+from ..laid_out import rows_in_short
 from ..numbers import Mark, Numbers
 from ..texts import read_name
 from ..unsure import Unsure
@@ -211,8 +211,9 @@ class Small(unittest.TestCase):
     def test_letters(self):
         self.assertEqual([letters(it) for it in (0, 25, 26, 701, 702)], ["A", "Z", "AA", "ZZ", "AAA"])
 
-    def test_ranges(self):
-        self.assertEqual(ranges([2, 4, 5, 6, 9]), "2, 4 to 6, 9")
+    def test_rows_in_short(self):
+        self.assertEqual(rows_in_short([2, 4, 5, 6, 9]), "rows 2, 4 to 6, 9")
+        self.assertEqual(rows_in_short([3]), "row 3")
 
 
 if __name__ == "__main__":

@@ -41,7 +41,7 @@ class Database(InAFolder, WithServer):
     def test_other_order_and_extra_columns(self):
         out, tables = self.imports(self.lay_queries(stock="select 5.000 as onhand, 'A' as warehouse, 'BIKE ' as \"Item\""))
         self.assertEqual(tables["stock"], b"item,onhand\nBIKE,5\n")
-        self.assertIn("stock: a column is left out: 'warehouse', 1 cells\n", out)
+        self.assertIn("stock: a column is left out: 'warehouse', 1 cell\n", out)
         self.assertIn("query stock, row 1: Item: 'BIKE ' is written BIKE\n", out)
 
     def test_a_time_of_day_is_told(self):

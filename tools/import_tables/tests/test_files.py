@@ -63,25 +63,25 @@ class Forms(InAFolder):
 
     def test_extra_columns(self):
         out = self.imports_bicycle(stock="item,Lager,onhand,\nBIKE,Köln,10,\nFRAME,,12,x\nWHEEL,,30,\n")
-        self.assertIn("stock.csv: a column is left out: 'Lager', 1 cells\n", out)
-        self.assertIn("stock.csv: a column is left out: one without a head, 1 cells\n", out)
+        self.assertIn("stock.csv: a column is left out: 'Lager', 1 cell\n", out)
+        self.assertIn("stock.csv: a column is left out: one without a head, 1 cell\n", out)
 
     def test_an_extra_column_may_have_any_bytes(self):
         self.imports_bicycle(stock="item,Lager,onhand\nBIKE,Köln,10\nFRAME,,12\nWHEEL,,30\n".encode("latin-1"))
 
     def test_titles_above_the_heads(self):
         out = self.imports_bicycle(stock="Stock of, Jan 2025\n;\nPlant;1\nItem;On hand\nBIKE;10\nFRAME;12\nWHEEL;30\n")
-        self.assertIn("stock.csv: rows above the heads are left out: 1, 3\n", out)
+        self.assertIn("stock.csv: rows above the heads are left out: rows 1, 3\n", out)
 
     def test_rows_of_nothing(self):
         out = self.imports_bicycle(stock="\n,\nitem,onhand\nBIKE,10\n\n , \nFRAME,12\n,\nWHEEL,30\n,\n,\n")
-        self.assertIn("stock.csv: rows of nothing are left out: 2, 6, 8, 10 to 11\n", out)
+        self.assertIn("stock.csv: rows of nothing are left out: rows 2, 6, 8, 10 to 11\n", out)
 
     def test_short_rows(self):
         script = "desk,call,item,date,quantity,number\n1,book,BIKE,2025-01-20,12\n1,run\n"
         out, tables = self.imports(self.lay_shop(script=script))
         self.assertEqual(tables["script"], b"desk,call,item,date,quantity,number\n1,book,BIKE,2025-01-20,12,\n1,run,,,,\n")
-        self.assertIn("script.csv: rows of fewer cells are filled up with empty ones: 2 to 3\n", out)
+        self.assertIn("script.csv: rows of fewer cells are filled up with empty ones: rows 2 to 3\n", out)
 
     def test_spaces_at_ends(self):
         out = self.imports_bicycle(stock="item,onhand\nBIKE ,10\nFRAME\u00a0, 12\nWHEEL,30\n")

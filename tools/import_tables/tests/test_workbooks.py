@@ -64,7 +64,7 @@ class Workbooks(InAFolder):
             [None, "WHEEL", None, 30],
         ]
         out = self.imports_bicycle(stock=stock)
-        self.assertIn("stock: rows of nothing are left out: 1, 3, 6\n", out)
+        self.assertIn("stock: rows of nothing are left out: rows 1, 3, 6\n", out)
 
     def test_formats_below_the_last_row_are_nothing(self):
         book = self.book()
@@ -125,7 +125,7 @@ class Workbooks(InAFolder):
 
     def test_columns_without_a_head(self):
         out, _ = self.imports(self.save(self.book(stock=[["item", "onhand"], ["BIKE", 10, None, "damaged"]])))
-        self.assertIn("stock: a column is left out: one without a head, 1 cells\n", out)
+        self.assertIn("stock: a column is left out: one without a head, 1 cell\n", out)
 
     def test_a_percentage(self):
         book = self.book()

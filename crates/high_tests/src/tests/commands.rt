@@ -1,71 +1,58 @@
-//! What the words of the command line do, with an input, an output and an error stream.
+//! What commands leave of streams that move few bytes a call, fail at any one, or are interrupted.
 
-use super::streams::{FAILS, acts, reader, writer};
-use super::texts::{BICYCLE_HISTORY, BICYCLE_REPORT};
+use super::streams::{ALL, FAILS, acts, reader, writer};
 use super::{made, same};
 use mrp_main::run_words;
-use mrp_rows::GREATEST_BUNDLE;
-use mrp_rows::devices::{Acts, EVERYTHING};
-use sample_shops::bicycles;
+use mrp_rows::devices::{Act, Acts, EVERYTHING, Stretch, one_else};
+use sample_shops::{Records, bicycles_welded};
 use std::alloc::Global;
 use std::fs;
-use std::fs::{File, OpenFile};
-use std::os::unix::fs::symlink;
+use std::fs::File;
+use std::io::{Eprint, Write};
 use std::process::Abort;
 use std::rt::Files;
 use std::sync::Wait;
 use std::test::Fail;
 use std::thread::Threads;
 
-const PLAN: &[&str] = &["plan"];
-
-const LIVE: &[&str] = &["live"];
-
-// The words that make a day.
-const DAYS: [&[&str]; 2] = [PLAN, LIVE];
-
-// What a run is given: the input's text, and what the three streams do.
+// What a run is given: the input's text, and what input and output do.
 #[derive(Clone, Copy)]
-pub struct Streams<'a> {
-    pub input: &'a str,
-    pub reads: Acts<'a>,
-    pub writes: Acts<'a>,
-    pub tells: Acts<'a>,
+struct Streams<'a> {
+    input: &'a str,
+    reads: Acts<'a>,
+    writes: Acts<'a>,
 }
 
-impl<'a> Streams<'a> {
-    // Streams that move everything.
-    pub fn of(input: &'a str) -> Streams<'a> {
-        Streams {
-            input,
-            reads: EVERYTHING,
-            writes: EVERYTHING,
-            tells: EVERYTHING,
-        }
+// Streams that move everything.
+fn smooth(input: &str) -> Streams<'_> {
+    Streams {
+        input,
+        reads: EVERYTHING,
+        writes: EVERYTHING,
     }
 }
 
 // What a run left: its status, its output and its error stream.
 #[derive(Drop)]
-pub struct Left {
-    pub status: u8,
-    pub output: String,
-    pub errors: String,
+struct Left {
+    status: u8,
+    output: String,
+    errors: String,
 }
 
 // What these words leave.
-pub fn left_by<R: AllocGlobal + Abort + Eprint + Files<File = File> + Threads + Wait + Sync>(
+fn left_by<R: AllocGlobal + Abort + Eprint + Files<File = File> + Threads + Wait + Sync>(
     rt: &R,
-    alloc: Global,
     words: &[&str],
     streams: Streams<'_>,
 ) -> Left
 where
     R::Dir: Send,
 {
+    let alloc = rt.alloc();
     let mut input = reader(streams.reads, streams.input);
     let mut output = writer(alloc, streams.writes);
-    let mut errors = writer(alloc, streams.tells);
+    let mut errors = writer(alloc, EVERYTHING);
     let status = run_words(rt, alloc, words, &mut input, &mut output, &mut errors);
     Left {
         status,
@@ -74,330 +61,307 @@ where
     }
 }
 
-// What they leave on the output, of streams that move everything.
-pub fn output_of<R: AllocGlobal + Abort + Eprint + Files<File = File> + Threads + Wait + Sync>(
+// Fails unless these words leave this status, this output and these errors.
+fn words_leave<R: AllocGlobal + Abort + Eprint + Files<File = File> + Threads + Wait + Sync>(
     rt: &R,
-    alloc: Global,
     words: &[&str],
-    input: &str,
-) -> String
+    streams: Streams<'_>,
+    want: (u8, &str, &str),
+)
 where
     R::Dir: Send,
 {
-    let left = left_by(rt, alloc, words, Streams::of(input));
+    let left = left_by(rt, words, streams);
+    let got = (left.status, left.output.as_str(), left.errors.as_str());
+    same(rt, got, want);
+    drop(left);
+}
+
+// The files of a folder of the bicycle shop in which frames are welded, with this script.
+fn files_of<'a>(script: &'a str) -> [(&'static str, &'static str, &'a str); 9] {
+    let shop = bicycles_welded();
+    [
+        ("calendar", "key,value\n", shop.calendar),
+        (
+            "items",
+            "item,class,lead,scrap,lot,size,safety\n",
+            shop.items,
+        ),
+        ("centres", "centre,minutes\n", shop.centres),
+        ("stock", "item,onhand\n", shop.stock),
+        ("receipts", "item,order,date,quantity\n", shop.receipts),
+        ("bills", "parent,component,per\n", shop.bills),
+        (
+            "routings",
+            "item,op,centre,setup,run,offset\n",
+            shop.routings,
+        ),
+        ("master", "item,row,date,quantity\n", shop.master),
+        ("script", "desk,call,item,date,quantity,number\n", script),
+    ]
+}
+
+fn make_file(files: &impl Files, path: &str, head: &str, rows: &str) -> Result<(), Fail> {
+    let mut file = File::create(files, path)?;
+    file.write_all(head.as_bytes())?;
+    file.write_all(rows.as_bytes())?;
+    Ok(())
+}
+
+// Makes that folder under this name, in which no order desk was opened. It may exist from an earlier run.
+fn make_folder(rt: &(impl AllocGlobal + Files), folder: &str, script: &str) -> Result<(), Fail> {
+    let _ = fs::create_dir(rt, "out");
+    let _ = fs::create_dir(rt, folder);
+    for (name, head, rows) in files_of(script) {
+        let path = format!(in rt.alloc(); "{folder}/{name}.csv")?;
+        make_file(rt, &path, head, rows)?;
+    }
+    let sum = format!(in rt.alloc(); "{folder}/desk.tables")?;
+    let _ = fs::remove_file(rt, sum.as_str());
+    Ok(())
+}
+
+// The calls of two desks in the bicycle shop.
+const SCRIPT: &str = "\
+1,book,BIKE,2025-01-20,12,\n\
+1,book,BIKE,2025-02-03,25,\n\
+2,ask,BIKE,2025-01-06,,\n\
+2,book,BIKE,2025-01-13,15,\n\
+2,book,BIKE,2025-01-06,10,\n\
+1,ask,BIKE,2025-01-20,,\n\
+1,run,,,,\n";
+
+// Calls of one desk, so that a live day has one text.
+const ONE_DESK: &str = "1,book,BIKE,2025-01-20,12,\n1,ask,BIKE,2025-01-06,,\n1,run,,,,\n";
+
+// The bundle of the welded bicycles with these calls.
+fn bundle_of<R: AllocGlobal + Abort + Eprint>(rt: &R, script: &str) -> String {
+    let shop = Records {
+        script,
+        ..bicycles_welded()
+    };
+    made(rt, shop.bundle(rt.alloc()))
+}
+
+// Words, what they read, and what they write where all goes well.
+#[derive(Drop)]
+struct Case {
+    words: &'static [&'static str],
+    input: String,
+    output: String,
+}
+
+fn case_of<R: AllocGlobal + Abort + Eprint + Files<File = File> + Threads + Wait + Sync>(
+    rt: &R,
+    words: &'static [&'static str],
+    input: String,
+) -> Case
+where
+    R::Dir: Send,
+{
+    let left = left_by(rt, words, smooth(&input));
+    same(rt, left.status, 0);
     let Left {
         status: _,
         output,
         errors: _errors,
     } = left;
-    output
-}
-
-// Fails unless the bicycle shop was planned.
-fn is_planned(rt: &impl Abort, left: &Left) {
-    same(rt, left.errors.as_str(), "");
-    same(rt, left.status, 0);
-    same(
-        rt,
-        left.output.as_str().strip_prefix(BICYCLE_HISTORY),
-        Some(BICYCLE_REPORT),
-    );
-}
-
-// Fails unless a run ended with this status, this output and these errors.
-pub fn has_ended(rt: &impl Abort, left: &Left, status: u8, output: &str, errors: &str) {
-    same(rt, left.status, status);
-    same(rt, left.output.as_str(), output);
-    same(rt, left.errors.as_str(), errors);
-}
-
-#[test]
-fn bundles_are_planned_by_1_to_64_workers(rt: HostRuntime) {
-    const WORDS: [&[&str]; 7] = [
-        &["plan"],
-        &["plan", "--workers", "1"],
-        &["plan", "--workers", "64"],
-        &["plan", "--workers=08"],
-        &["live"],
-        &["live", "--workers", "64"],
-        &["live", "--workers=08"],
-    ];
-    let bundle = made(&rt, bicycles().bundle(rt.alloc()));
-    for words in WORDS {
-        let left = left_by(&rt, rt.alloc(), words, Streams::of(&bundle));
-        is_planned(&rt, &left);
-        drop(left);
+    Case {
+        words,
+        input,
+        output,
     }
-    drop(bundle);
 }
 
-// The status of a run whose error stream fails.
-fn unheard_status<R: AllocGlobal + Abort + Eprint + Files<File = File> + Threads + Wait + Sync>(
+// The commands: all but the last read the input.
+fn made_cases<R: AllocGlobal + Abort + Eprint + Files<File = File> + Threads + Wait + Sync>(
     rt: &R,
-    alloc: Global,
-    words: &[&str],
-    input: &str,
-) -> u8
+) -> [Case; 5]
 where
     R::Dir: Send,
 {
-    let streams = Streams {
-        tells: acts(&[], FAILS),
-        ..Streams::of(input)
-    };
-    let left = left_by(rt, alloc, words, streams);
-    let status = left.status;
-    drop(left);
-    status
+    const CHECK: &[&str] = &["check", "--dir", "out/lots"];
+    const CARRY: &[&str] = &["carry", "--dir", "out/lots", "--start", "2025-01-06"];
+    made(rt, make_folder(rt, "out/lots", SCRIPT));
+    let plan = case_of(rt, &["plan"], bundle_of(rt, SCRIPT));
+    let live = case_of(rt, &["live"], bundle_of(rt, ONE_DESK));
+    let day = plan.output.clone().expect(rt, "memory");
+    let check = case_of(rt, CHECK, day);
+    let day = plan.output.clone().expect(rt, "memory");
+    let page = case_of(rt, &["page"], day);
+    let carry = case_of(rt, CARRY, String::new(rt.alloc()));
+    [plan, live, check, page, carry]
+}
+
+// The bytes that a reader gives a call, and those that a writer takes.
+const GIVEN: usize = 7;
+
+const TAKEN: usize = 50;
+
+// Fails unless these words say so of each read that fails, the one at the input's end too.
+fn reads_are_told<R: AllocGlobal + Abort + Eprint + Files<File = File> + Threads + Wait + Sync>(
+    rt: &R,
+    case: &Case,
+)
+where
+    R::Dir: Send,
+{
+    let usual = Act::Moves(GIVEN);
+    for before in 0..=case.input.len().div_ceil(GIVEN) {
+        let stretches = one_else(before as u64, FAILS, usual);
+        let streams = Streams {
+            reads: acts(&stretches, usual),
+            ..smooth(&case.input)
+        };
+        words_leave(rt, case.words, streams, (4, "", "read failed\n"));
+    }
 }
 
 #[test]
-fn a_failing_error_stream_changes_no_status(rt: HostRuntime) {
-    let alloc = rt.alloc();
-    let bundle = made(&rt, bicycles().bundle(alloc));
-    let wrong = ["plan", "--workers", "0"];
-    for words in DAYS {
-        same(&rt, unheard_status(&rt, alloc, words, &bundle), 0);
-        same(&rt, unheard_status(&rt, alloc, words, ""), 1);
+fn each_read_that_fails_is_told(rt: HostRuntime) {
+    let cases = made_cases(&rt);
+    for case in cases.iter().take(4) {
+        reads_are_told(&rt, case);
     }
-    same(&rt, unheard_status(&rt, alloc, &wrong, &bundle), 2);
-    same(&rt, unheard_status(&rt, alloc, &["--help"], &bundle), 0);
-    drop(bundle);
+    drop(cases);
 }
 
-// Fails unless words were wrong, and this is the first line on the error stream.
-fn is_usage(rt: &impl Abort, left: &Left, line: &str) {
-    same(rt, left.status, 2);
-    same(rt, left.output.as_str(), "");
-    same(rt, left.errors.as_str().lines().next(), Some(line));
+// Fails unless a run wrote all, or said that a write failed and wrote a prefix. Returns whether it wrote all.
+fn has_front(rt: &impl Abort, left: &Left, output: &str) -> bool {
+    let got = (left.status, left.output.as_str(), left.errors.as_str());
+    let is_whole = left.status == 0;
+    if is_whole {
+        same(rt, got, (0, output, ""));
+    } else {
+        let front = output.get(..left.output.len()).unwrap_or("no front");
+        same(rt, got, (4, front, "write failed\n"));
+    }
+    is_whole
 }
 
-// Wrong words, and the first line that is reported for them.
-const WRONG: [(&[&str], &str); 24] = [
-    (
-        &[],
-        "error: 'mrp' requires a subcommand but one was not provided",
-    ),
-    (&["plans"], "error: unrecognized subcommand 'plans'"),
-    (&["lives"], "error: unrecognized subcommand 'lives'"),
-    (
-        &["plan", "--workers", "0"],
-        "error: invalid value '0' for '--workers <N>': 0 is not in 1..=64",
-    ),
-    (
-        &["plan", "--workers", "65"],
-        "error: invalid value '65' for '--workers <N>': 65 is not in 1..=64",
-    ),
-    (
-        &["plan", "--workers", "x"],
-        "error: invalid value 'x' for '--workers <N>': invalid digit found in string",
-    ),
-    (
-        &["plan", "--workers"],
-        "error: a value is required for '--workers <N>' but none was supplied",
-    ),
-    (
-        &["plan", "--workers", "1", "--workers", "2"],
-        "error: the argument '--workers <N>' cannot be used multiple times",
-    ),
-    (
-        &["plan", "--dir"],
-        "error: a value is required for '--dir <D>' but none was supplied",
-    ),
-    (
-        &["plan", "--dir", "a", "--dir", "b"],
-        "error: the argument '--dir <D>' cannot be used multiple times",
-    ),
-    (&["plan", "more"], "error: unexpected argument 'more' found"),
-    (&["live", "more"], "error: unexpected argument 'more' found"),
-    (&["plan", "live"], "error: unexpected argument 'live' found"),
-    (
-        &["live", "--workers", "0"],
-        "error: invalid value '0' for '--workers <N>': 0 is not in 1..=64",
-    ),
-    (&["page", "more"], "error: unexpected argument 'more' found"),
-    (
-        &["page", "--dir"],
-        "error: a value is required for '--dir <D>' but none was supplied",
-    ),
-    (
-        &["page", "--run", "0"],
-        "error: invalid value '0' for '--run <K>': 0 is not in 1..18446744073709551615",
-    ),
-    (
-        &["check"],
-        "error: the following required arguments were not provided:",
-    ),
-    (
-        &["check", "--dir", "shop", "--workers", "2"],
-        "error: unexpected argument '--workers' found",
-    ),
-    (
-        &["carry", "--dir", "shop"],
-        "error: the following required arguments were not provided:",
-    ),
-    (
-        &["carry", "--numbers=1"],
-        "error: unexpected value '1' for '--numbers' found; no more were expected",
-    ),
-    (
-        &["desk", "--workers", "2"],
-        "error: the following required arguments were not provided:",
-    ),
-    (
-        &["desk", "--dir", "shop", "--workers", "65"],
-        "error: invalid value '65' for '--workers <N>': 65 is not in 1..=64",
-    ),
-    (
-        &["--workers", "2"],
-        "error: unexpected argument '--workers' found",
-    ),
+// Fails unless these words say so of each write that does this, the last one too.
+fn writes_are_told<R: AllocGlobal + Abort + Eprint + Files<File = File> + Threads + Wait + Sync>(
+    rt: &R,
+    case: &Case,
+    act: Act,
+)
+where
+    R::Dir: Send,
+{
+    let usual = Act::Moves(TAKEN);
+    for before in 0..=case.output.len() {
+        let stretches = one_else(before as u64, act, usual);
+        let streams = Streams {
+            writes: acts(&stretches, usual),
+            ..smooth(&case.input)
+        };
+        let left = left_by(rt, case.words, streams);
+        let is_whole = has_front(rt, &left, &case.output);
+        drop(left);
+        if is_whole {
+            same(rt, before < case.output.len().div_ceil(TAKEN), false);
+            return;
+        }
+    }
+    rt.panic("there are more calls than bytes")
+}
+
+#[test]
+fn each_write_that_fails_or_takes_nothing_is_told(rt: HostRuntime) {
+    let cases = made_cases(&rt);
+    for act in [FAILS, Act::Moves(0)] {
+        for case in &cases {
+            writes_are_told(&rt, case, act);
+        }
+    }
+    drop(cases);
+}
+
+const SHORT: &[Stretch] = &[Stretch(1, Act::Moves(7)), Stretch(1, Act::Interrupts)];
+
+// A writer that is interrupted 1,000,000 times, before its first byte and after it, and one that is interrupted once more.
+const PATIENT: &[Stretch] = &[
+    Stretch(500_000, Act::Interrupts),
+    Stretch(1, Act::Moves(1)),
+    Stretch(500_000, Act::Interrupts),
 ];
 
-#[test]
-fn wrong_words_are_usage(rt: HostRuntime) {
-    let bundle = made(&rt, bicycles().bundle(rt.alloc()));
-    for (words, line) in WRONG {
-        let left = left_by(&rt, rt.alloc(), words, Streams::of(&bundle));
-        is_usage(&rt, &left, line);
-        drop(left);
-    }
-    drop(bundle);
-}
+const IMPATIENT: &[Stretch] = &[
+    Stretch(500_000, Act::Interrupts),
+    Stretch(1, Act::Moves(1)),
+    Stretch(500_001, Act::Interrupts),
+];
 
-// Fails unless a help text was written that has one text and lacks the other.
-fn is_help(rt: &impl Abort, left: &Left, has: &str, lacks: &str) {
-    let output = left.output.as_str();
-    same(rt, output.contains("mrp plan < shop.bundle"), true);
-    same(rt, output.contains(has), true);
-    same(rt, output.contains(lacks), false);
-    same(rt, left.status, 0);
-    same(rt, left.errors.as_str(), "");
-}
-
-#[test]
-fn help_is_written_to_the_output(rt: HostRuntime) {
-    const OF_ALL: &str =
-        "\n  plan     Plans a bundle from standard input, or the files of a folder\n  live     Plans the same with its desks at work beside one another\n";
-    const OF_PLAN: &str = "  [promises]  each master item and week";
-    const OF_LIVE: &str = "has the desks of its script make their calls beside one another,\n";
-    const OF_PAGE: &str = "Nothing is fetched, and there is no script.";
-    const OF_CHECK: &str = "  wrong: report N   the report of run N";
-    const OF_CARRY: &str = "With --numbers a list is written in its place";
-    const OF_INSPECT: &str = "  2 faults (warnings are told when there is none)\n";
-    const OF_DESK: &str = "  1,1,book,BIKE,3,12,,booked,1    the row of the history, as";
-    const ASKED: [(&[&str], &str, &str); 16] = [
-        (&["--help"], OF_ALL, OF_PLAN),
-        (&["plan", "--help"], OF_PLAN, OF_LIVE),
-        (&["live", "--help"], OF_LIVE, OF_PLAN),
-        (&["page", "--help"], OF_PAGE, OF_PLAN),
-        (&["check", "--help"], OF_CHECK, OF_PLAN),
-        (&["carry", "--help"], OF_CARRY, OF_PLAN),
-        (&["inspect", "--help"], OF_INSPECT, OF_PLAN),
-        (&["desk", "--help"], OF_DESK, OF_PLAN),
-        (&["help"], OF_ALL, OF_LIVE),
-        (&["help", "plan"], OF_PLAN, OF_LIVE),
-        (&["help", "live"], OF_LIVE, OF_PLAN),
-        (&["help", "page"], OF_PAGE, OF_LIVE),
-        (&["help", "check"], OF_CHECK, OF_LIVE),
-        (&["help", "carry"], OF_CARRY, OF_LIVE),
-        (&["help", "inspect"], OF_INSPECT, OF_LIVE),
-        (&["help", "desk"], OF_DESK, OF_LIVE),
+// Fails unless these words go on where reads and writes are short and interrupted, and where a write is interrupted a
+// million times, and give up after one time more.
+fn go_on<R: AllocGlobal + Abort + Eprint + Files<File = File> + Threads + Wait + Sync>(
+    rt: &R,
+    case: &Case,
+)
+where
+    R::Dir: Send,
+{
+    let whole = (0, case.output.as_str(), "");
+    let front = case.output.get(..1).unwrap_or("no front");
+    let cut = (4, front, "write failed\n");
+    let tries = [
+        (SHORT, Act::Moves(1), whole),
+        (PATIENT, ALL, whole),
+        (IMPATIENT, ALL, cut),
     ];
-    for (words, has, lacks) in ASKED {
-        let left = left_by(&rt, rt.alloc(), words, Streams::of(""));
-        is_help(&rt, &left, has, lacks);
-        drop(left);
+    for (stretches, after, want) in tries {
+        let streams = Streams {
+            input: &case.input,
+            reads: acts(SHORT, Act::Moves(1)),
+            writes: acts(stretches, after),
+        };
+        words_leave(rt, case.words, streams, want);
     }
 }
 
 #[test]
-fn the_version_is_written_to_the_output(rt: HostRuntime) {
-    const TOLD: &str = "mrp 0.1.0 (proved with rattle-kit-13f)\n";
-    for word in ["--version", "-V"] {
-        let left = left_by(&rt, rt.alloc(), &[word], Streams::of(""));
-        has_ended(&rt, &left, 0, TOLD, "");
-        drop(left);
+fn interrupted_calls_are_tried_again_a_million_times(rt: HostRuntime) {
+    let cases = made_cases(&rt);
+    for case in &cases {
+        go_on(&rt, case);
     }
+    drop(cases);
 }
 
-// Makes a file with `length` bytes.
-fn make_long(files: &impl Files, path: &str, length: u64) -> Result<(), Fail> {
-    File::create(files, path)?.set_len(length)?;
-    Ok(())
-}
+// What streams of an order desk do first: they move a line of 27 bytes, they move 5 bytes, or they move 7 between
+// interruptions.
+const LINE: &[Stretch] = &[Stretch(1, Act::Moves(27))];
 
-// Makes a folder whose calendar is a folder, one whose calendar is a link to itself, one that has an item
-// table too long for a bundle, one whose item table and stock are too long together, and one whose calendar
-// is as long as a bundle may be. They may exist from an earlier run.
-fn make_folders(files: &impl Files) -> Result<(), Fail> {
-    const FOLDERS: [&str; 7] = [
-        "out",
-        "out/shut",
-        "out/shut/calendar.csv",
-        "out/loop",
-        "out/long",
-        "out/both",
-        "out/full",
-    ];
-    for folder in FOLDERS {
-        let _ = fs::create_dir(files, folder);
-    }
-    let _ = symlink(files, "calendar.csv", "out/loop/calendar.csv");
-    make_long(files, "out/long/items.csv", GREATEST_BUNDLE as u64 + 1)?;
-    make_long(files, "out/both/items.csv", GREATEST_BUNDLE as u64)?;
-    make_long(files, "out/both/stock.csv", 1)?;
-    make_long(files, "out/full/calendar.csv", GREATEST_BUNDLE as u64)?;
-    make_long(files, "out/file", 1)
-}
+const FRONT: &[Stretch] = &[Stretch(1, Act::Moves(5))];
 
-// A name that is longer than the system accepts: 300 letters.
-const TOO_LONG: &str = "\
-aaaaaaaaaaaaaaaaaaaaaaaaaaaaaaaaaaaaaaaaaaaaaaaaaaaaaaaaaaaaaaaaaaaaaaaaaaaaaaaaaaaaaaaaaaaaaaaaaaaa\
-aaaaaaaaaaaaaaaaaaaaaaaaaaaaaaaaaaaaaaaaaaaaaaaaaaaaaaaaaaaaaaaaaaaaaaaaaaaaaaaaaaaaaaaaaaaaaaaaaaaa\
-aaaaaaaaaaaaaaaaaaaaaaaaaaaaaaaaaaaaaaaaaaaaaaaaaaaaaaaaaaaaaaaaaaaaaaaaaaaaaaaaaaaaaaaaaaaaaaaaaaaa";
+const SLOW: &[Stretch] = &[
+    Stretch(1, Act::Interrupts),
+    Stretch(1, Act::Moves(7)),
+    Stretch(1, Act::Interrupts),
+];
 
-// The input is no bundle, and is not read.
+// A read fails behind a line, then a write within an answer, and then streams are slow. Each start knows the calls of
+// those before it, also the one whose answer was cut.
 #[test]
-fn folders_that_can_not_be_read_are_told(rt: HostRuntime) {
-    const ENDS: [(&str, u8, &str); 8] = [
-        ("nowhere", 1, "refused: 4 missing-section calendar 0\n"),
-        ("out/file", 1, "refused: 4 missing-section calendar 0\n"),
-        ("out/shut", 4, "read failed\n"),
-        ("out/loop", 4, "read failed\n"),
-        (TOO_LONG, 4, "read failed\n"),
-        ("out/long", 4, "read failed\n"),
-        ("out/both", 4, "read failed\n"),
-        ("out/full", 4, "read failed\n"),
-    ];
-    made(&rt, make_folders(&rt));
-    for (folder, status, errors) in ENDS {
-        let words = ["plan", "--dir", folder];
-        let left = left_by(&rt, rt.alloc(), &words, Streams::of("no bundle"));
-        has_ended(&rt, &left, status, "", errors);
-        drop(left);
-    }
-}
-
-// The input is no day, and is not read.
-#[test]
-fn a_check_reads_no_folder_that_a_plan_does_not(rt: HostRuntime) {
-    made(&rt, make_folders(&rt));
-    for folder in [
-        "out/shut", "out/loop", TOO_LONG, "out/long", "out/both", "out/full",
-    ] {
-        let words = ["check", "--dir", folder];
-        let left = left_by(&rt, rt.alloc(), &words, Streams::of("no day"));
-        has_ended(&rt, &left, 4, "", "read failed\n");
-        drop(left);
-    }
-}
-
-#[test]
-fn a_live_day_of_a_folder_leaves_the_input_too(rt: HostRuntime) {
-    let words = ["live", "--dir", "nowhere"];
-    let left = left_by(&rt, rt.alloc(), &words, Streams::of("no bundle"));
-    let refused = "refused: 4 missing-section calendar 0\n";
-    has_ended(&rt, &left, 1, "", refused);
-    drop(left);
+fn streams_that_fail_end_an_order_desk(rt: HostRuntime) {
+    const WORDS: &[&str] = &["desk", "--dir", "out/desk"];
+    const BOOKED: &str = "1,1,book,BIKE,3,12,,booked,1\n";
+    const CANCELS: &str = "3,1,cancel,,,,1,cancelled,\n4,1,cancel,,,,1,not-standing,\n";
+    made(&rt, make_folder(&rt, "out/desk", ""));
+    let unread = Streams {
+        reads: acts(LINE, FAILS),
+        ..smooth("1,book,BIKE,2025-01-20,12,\n1,run,,,,\n")
+    };
+    words_leave(&rt, WORDS, unread, (4, BOOKED, "read failed\n"));
+    let untold = Streams {
+        writes: acts(FRONT, FAILS),
+        ..smooth("1,ask,BIKE,2025-01-20,,\n")
+    };
+    words_leave(&rt, WORDS, untold, (4, "2,1,a", "write failed\n"));
+    let slow = Streams {
+        reads: acts(SLOW, Act::Moves(1)),
+        writes: acts(SLOW, ALL),
+        ..smooth("1,cancel,,,,1\n1,cancel,,,,1\n")
+    };
+    words_leave(&rt, WORDS, slow, (0, CANCELS, ""));
 }

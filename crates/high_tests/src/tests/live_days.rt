@@ -1,217 +1,26 @@
-//! Live days. With several desks a bundle has many right ones, so tests look at what all of them have in
-//! common.
+//! Desks of live days, in threads of their own.
 
-use super::audits::SCRIPT;
-use super::commands::{Left, Streams, has_ended, left_by};
 use super::{made, same};
-use mrp_audit::check;
 use mrp_engine::{Day, DayFault, answer_by_desks};
 use mrp_explode::{Gate, OpenGate};
 use mrp_rows::Name;
-use sample_shops::{Records, bicycles, bicycles_in_lots, no_records, tower};
+use sample_shops::{Records, bicycles, bicycles_in_lots, tower};
 use std::alloc::Global;
-use std::fs::File;
 use std::io::Eprint;
 use std::process::Abort;
-use std::rt::Files;
 use std::sync::Wait;
 use std::sync::atomic::{AtomicU64, Ordering};
-use std::test::Fail;
 use std::thread::{Threads, yield_now};
 
-// A morning at two desks, without the run after it.
-const MORNING: &str = "\
+// The calls of two desks in the bicycle shop.
+const SCRIPT: &str = "\
 1,book,BIKE,2025-01-20,12,\n\
 1,book,BIKE,2025-02-03,25,\n\
 2,ask,BIKE,2025-01-06,,\n\
 2,book,BIKE,2025-01-13,15,\n\
 2,book,BIKE,2025-01-06,10,\n\
-1,ask,BIKE,2025-01-20,,\n";
-
-// The calls of the first desk, with its run, and of the second: the cells of a row between its desk
-// and its reply.
-const FIRST: &str = "book,BIKE,3,12,,\nbook,BIKE,5,25,,\nask,BIKE,3,,,\nrun,,,,,\n";
-
-const SECOND: &str = "ask,BIKE,1,,,\nbook,BIKE,2,15,,\nbook,BIKE,1,10,,\n";
-
-// The lines that begin the sections of a day with one run.
-const SECTIONS: &str =
-    "[history]\n[run]\n[promises]\n[plan]\n[orders]\n[pegs]\n[messages]\n[loads]\n";
-
-// The cells of a row from its call to before its reply.
-const CALL_CELLS: usize = 5;
-
-// Appends a call's cells to a text, if the desk made the call.
-fn put_call(calls: &mut String, row: &str, desk: &str) -> Result<(), Fail> {
-    let mut cells = row.split(',').skip(1);
-    if cells.next() != Some(desk) {
-        return Ok(());
-    }
-    for cell in cells.take(CALL_CELLS) {
-        calls.push_str(cell)?;
-        calls.push_str(",")?;
-    }
-    calls.push_str("\n")?;
-    Ok(())
-}
-
-// The calls of a desk in a day's history, line by line.
-fn calls_of(alloc: Global, day: &str, desk: &str) -> Result<String, Fail> {
-    let mut calls = String::new(alloc);
-    for line in day.lines() {
-        if line == "[run]" {
-            return Ok(calls);
-        }
-        put_call(&mut calls, line, desk)?;
-    }
-    Ok(calls)
-}
-
-// The lines of a day that begin its sections.
-fn sections_of(alloc: Global, day: &str) -> Result<String, Fail> {
-    let mut sections = String::new(alloc);
-    for line in day.lines() {
-        if line.starts_with('[') {
-            sections.push_str(line)?;
-            sections.push_str("\n")?;
-        }
-    }
-    Ok(sections)
-}
-
-// Fails unless a day's history has this number of entries, numbered from 1.
-fn is_numbered(rt: &impl Abort, day: &str, entries: u64) {
-    let mut count = 0u64;
-    for row in day.lines().skip(2) {
-        if row == "[run]" {
-            break;
-        }
-        count = count.saturating_add(1);
-        let number = match row.split(',').next() {
-            Some(cell) => cell.parse::<u64>().ok(),
-            None => None,
-        };
-        same(rt, number, Some(count));
-    }
-    same(rt, count, entries);
-}
-
-// Fails unless a day is right as far as its history can be predicted, and has all sections.
-fn is_morning<R: Abort + Eprint>(rt: &R, alloc: Global, left: &Left) {
-    let day = left.output.as_str();
-    same(rt, left.errors.as_str(), "");
-    same(rt, left.status, 0);
-    is_numbered(rt, day, 7);
-    let first = made(rt, calls_of(alloc, day, "1"));
-    let second = made(rt, calls_of(alloc, day, "2"));
-    let sections = made(rt, sections_of(alloc, day));
-    same(rt, first.as_str(), FIRST);
-    same(rt, second.as_str(), SECOND);
-    same(rt, sections.as_str(), SECTIONS);
-    drop((first, second, sections));
-}
-
-// What the bicycle shop leaves after these calls, with eight workers; the checker finds it right.
-fn morning_by<R: AllocGlobal + Abort + Eprint + Files<File = File> + Threads + Wait + Sync>(
-    rt: &R,
-    alloc: Global,
-    script: &str,
-) -> Left
-where
-    R::Dir: Send,
-{
-    let shop = Records {
-        script,
-        ..bicycles_in_lots()
-    };
-    let bundle = made(rt, shop.bundle(alloc));
-    let words = ["live", "--workers", "8"];
-    let left = left_by(rt, alloc, &words, Streams::of(&bundle));
-    let found = check(rt, alloc, bundle.as_bytes(), left.output.as_bytes());
-    same(rt, found, Ok(()));
-    drop(bundle);
-    left
-}
-
-#[test]
-fn each_desk_makes_its_calls_in_order(rt: HostRuntime) {
-    for _ in 0..8 {
-        let left = morning_by(&rt, rt.alloc(), SCRIPT);
-        is_morning(&rt, rt.alloc(), &left);
-        drop(left);
-    }
-}
-
-#[test]
-fn the_run_of_a_script_without_one_comes_last(rt: HostRuntime) {
-    for _ in 0..8 {
-        let left = morning_by(&rt, rt.alloc(), MORNING);
-        is_morning(&rt, rt.alloc(), &left);
-        same(
-            &rt,
-            left.output
-                .as_str()
-                .contains("\n7,1,run,,,,,front,7\n[run]\nfront,standing\n7,"),
-            true,
-        );
-        drop(left);
-    }
-}
-
-#[test]
-fn nothing_is_written_where_a_run_of_a_live_day_gets_too_large(rt: HostRuntime) {
-    let shop = Records {
-        script: "1,run,,,,\n1,book,TOP,2025-01-06,1,\n1,run,,,,\n",
-        ..tower()
-    };
-    let bundle = made(&rt, shop.bundle(rt.alloc()));
-    let left = left_by(&rt, rt.alloc(), &["live"], Streams::of(&bundle));
-    has_ended(&rt, &left, 1, "", "too large: B\n");
-    drop((left, bundle));
-}
-
-// The calls of two desks taking turns.
-const IN_TURN: &str = "1,ask,BIKE,2025-01-06,,\n2,ask,BIKE,2025-01-06,,\n";
-
-// A script in which two desks take turns.
-fn turns(alloc: Global, count: usize) -> Result<String, Fail> {
-    let mut script = String::new(alloc);
-    for _ in 0..count {
-        script.push_str(IN_TURN)?;
-    }
-    Ok(script)
-}
-
-// The day of two desks whose records alternate, as a command makes it.
-fn turns_by<R: AllocGlobal + Abort + Eprint + Files<File = File> + Threads + Wait + Sync>(
-    rt: &R,
-    alloc: Global,
-    command: &str,
-) -> Left
-where
-    R::Dir: Send,
-{
-    let script = made(rt, turns(alloc, 400));
-    let shop = Records {
-        script: script.as_str(),
-        ..bicycles_in_lots()
-    };
-    let bundle = made(rt, shop.bundle(alloc));
-    let left = left_by(rt, alloc, &[command], Streams::of(&bundle));
-    same(rt, left.status, 0);
-    drop((bundle, script));
-    left
-}
-
-// In row order each of 800 calls would be made in turn, which no two threads do.
-#[test]
-fn a_live_day_is_not_made_in_row_order(rt: HostRuntime) {
-    let plan = turns_by(&rt, rt.alloc(), "plan");
-    let live = turns_by(&rt, rt.alloc(), "live");
-    same(&rt, plan.output.len(), live.output.len());
-    same(&rt, plan.output.as_str() == live.output.as_str(), false);
-    drop((plan, live));
-}
+1,ask,BIKE,2025-01-20,,\n\
+1,run,,,,\n";
 
 const MOST_TURNS: u64 = 10_000_000;
 
@@ -393,44 +202,6 @@ fn a_live_day_is_refused_by_the_first_run_and_its_desks_go_on(rt: HostRuntime) {
     same(&rt, beside.given_up.load(Ordering::SeqCst), 0);
     same(&rt, beside.records.load(Ordering::SeqCst), 3);
     drop(beside);
-}
-
-// A gate at which so many workers wait for one another. Whoever gives up waiting is counted.
-#[derive(Drop)]
-struct AllCome {
-    workers: u64,
-    came: AtomicU64,
-    given_up: AtomicU64,
-}
-
-impl Gate for AllCome {
-    fn pass<R: Wait>(&self, _rt: &R, _item: usize) {
-        let _before = self.came.fetch_add(1, Ordering::SeqCst);
-        if !comes_to(&self.came, self.workers) {
-            let _before = self.given_up.fetch_add(1, Ordering::SeqCst);
-        }
-    }
-}
-
-#[test]
-fn as_many_workers_as_were_asked_for_plan_a_run(rt: HostRuntime) {
-    let records = Records {
-        items: "A,master,0,0,lfl,0,0\nB,master,0,0,lfl,0,0\n",
-        script: "1,run,,,,\n",
-        ..no_records()
-    };
-    let gate = AllCome {
-        workers: 2,
-        came: AtomicU64::new(0),
-        given_up: AtomicU64::new(0),
-    };
-    let alloc = rt.alloc();
-    let shop = made(&rt, records.shop(alloc));
-    let day = answer_by_desks(&rt, alloc, shop, 2, &OpenGate, &gate).expect(&rt, "memory");
-    same(&rt, day.first.is_some(), true);
-    same(&rt, gate.came.load(Ordering::SeqCst), 2);
-    same(&rt, gate.given_up.load(Ordering::SeqCst), 0);
-    drop((day, gate));
 }
 
 // A desk's records so far, and how many items of its runs came while it was at its first.

@@ -56,31 +56,34 @@ fn changes_both_ways<R: Alloc + Abort + Eprint + Threads + Wait + Sync>(
     drop((old, new, back));
 }
 
-#[test]
-fn no_item_is_planned_for_the_same_bookings(rt: HostRuntime) {
-    changes_both_ways(&rt, rt.alloc(), bicycles(), NONE, NONE, 0);
-}
+type Calls = &'static [(u64, Asked)];
+
+// Calls before and after, and how many items are planned: none for the same bookings, or the same pieces in a week, one for a
+// booking within the forecast, and all for one above it. The second snapshot of the last is the fourth entry.
+const CASES: [(Calls, Calls, u64); 4] = [
+    (&[], &[], 0),
+    (
+        &[(1, Asked::Book(3, 6)), (2, Asked::Book(3, 6))],
+        &[(1, Asked::Book(3, 12))],
+        0,
+    ),
+    (&[], &[(1, Asked::Book(4, 6))], 1),
+    (
+        &[(1, Asked::Book(3, 12))],
+        &[
+            (1, Asked::Book(3, 12)),
+            (1, Asked::Snapshot),
+            (2, Asked::Book(5, 25)),
+        ],
+        3,
+    ),
+];
 
 #[test]
-fn a_booking_within_the_forecast_plans_its_item_alone(rt: HostRuntime) {
-    const SIX: &[(u64, Asked)] = &[(1, Asked::Book(4, 6))];
-    changes_both_ways(&rt, rt.alloc(), bicycles(), NONE, SIX, 1);
-}
-
-// The second snapshot is the fourth entry, with two bookings.
-#[test]
-fn a_booking_between_two_snapshots_plans_all_below(rt: HostRuntime) {
-    const ONE: &[(u64, Asked)] = &[(1, Asked::Book(3, 12))];
-    const TWO: &[(u64, Asked)] = &[
-        (1, Asked::Book(3, 12)),
-        (1, Asked::Snapshot),
-        (2, Asked::Book(5, 25)),
-    ];
-    changes_both_ways(&rt, rt.alloc(), bicycles(), ONE, TWO, 3);
-}
-
-#[test]
-fn a_shop_with_lots_and_loads_is_planned_by_net_change(rt: HostRuntime) {
+fn bookings_plan_what_they_touch(rt: HostRuntime) {
+    for (before, after, count) in CASES {
+        changes_both_ways(&rt, rt.alloc(), bicycles(), before, after, count);
+    }
     changes_both_ways(&rt, rt.alloc(), bicycles_welded(), morning(), NONE, 3);
 }
 

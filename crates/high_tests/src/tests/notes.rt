@@ -61,13 +61,6 @@ const LOT_MESSAGES: &[Message] = &[
     },
 ];
 
-#[test]
-fn late_orders_and_open_receipts_are_told(rt: HostRuntime) {
-    let plan = made(&rt, bicycles_in_lots().plan(rt.alloc(), morning()));
-    has_messages(&rt, rt.alloc(), &plan, LOT_MESSAGES);
-    drop(plan);
-}
-
 const PRODUCT_MESSAGES: &[Message] = &[
     Message {
         item: 0,
@@ -112,8 +105,14 @@ const PRODUCT_MESSAGES: &[Message] = &[
 ];
 
 #[test]
-fn a_late_firm_row_is_told_so_before_it_is_moved(rt: HostRuntime) {
-    let plan = made(&rt, products().plan(rt.alloc(), product_bookings()));
-    has_messages(&rt, rt.alloc(), &plan, PRODUCT_MESSAGES);
-    drop(plan);
+fn late_orders_and_open_receipts_are_told(rt: HostRuntime) {
+    let shops = [
+        (bicycles_in_lots(), morning(), LOT_MESSAGES),
+        (products(), product_bookings(), PRODUCT_MESSAGES),
+    ];
+    for (shop, calls, want) in shops {
+        let plan = made(&rt, shop.plan(rt.alloc(), calls));
+        has_messages(&rt, rt.alloc(), &plan, want);
+        drop(plan);
+    }
 }

@@ -3,9 +3,7 @@
 use super::{made, same};
 use mrp_item::Plan;
 use mrp_peg::{Need, NeedKind, Peg, Supplied, item_pegs, pegs};
-use sample_shops::{
-    Records, bicycles_in_lots, bicycles_with_service, morning, product_bookings, products,
-};
+use sample_shops::{Records, bicycles_in_lots, morning, product_bookings, products};
 use std::alloc::Global;
 use std::process::Abort;
 
@@ -148,17 +146,6 @@ const BICYCLE_PEGS: &[Cells] = &[
     ),
 ];
 
-#[test]
-fn two_lines_of_a_pair_are_two_requirements(rt: HostRuntime) {
-    let shop = Records {
-        bills: "BIKE,FRAME,1\nBIKE,WHEEL,1\nBIKE,WHEEL,1\n",
-        ..bicycles_in_lots()
-    };
-    let plan = made(&rt, shop.plan(rt.alloc(), morning()));
-    has_pegs(&rt, rt.alloc(), &plan, BICYCLE_PEGS);
-    drop(plan);
-}
-
 // The pegs of a product with shrinkage, and of its parts.
 const PRODUCT_PEGS: &[Cells] = &[
     (0, Some((1, NeedKind::Booking(2))), Supplied::Stock, 3),
@@ -228,66 +215,18 @@ const PRODUCT_PEGS: &[Cells] = &[
 ];
 
 #[test]
-fn what_starts_is_required_and_what_is_left_is_surplus(rt: HostRuntime) {
-    let plan = made(&rt, products().plan(rt.alloc(), product_bookings()));
-    has_pegs(&rt, rt.alloc(), &plan, PRODUCT_PEGS);
-    drop(plan);
-}
-
-// The pegs of wheels: record 5 of the master schedule needs 7 of them in week 3, besides what bicycles need.
-const WHEEL_PEGS: &[Cells] = &[
-    (
-        2,
-        Some((1, NeedKind::Parent { line: 2, order: 1 })),
-        Supplied::Stock,
-        16,
-    ),
-    (
-        2,
-        Some((2, NeedKind::Parent { line: 2, order: 2 })),
-        Supplied::Stock,
-        14,
-    ),
-    (
-        2,
-        Some((2, NeedKind::Parent { line: 2, order: 2 })),
-        Supplied::Order(1),
-        26,
-    ),
-    (2, Some((3, NeedKind::Service(5))), Supplied::Order(1), 7),
-    (
-        2,
-        Some((4, NeedKind::Parent { line: 2, order: 3 })),
-        Supplied::Order(1),
-        27,
-    ),
-    (
-        2,
-        Some((4, NeedKind::Parent { line: 2, order: 3 })),
-        Supplied::Order(2),
-        13,
-    ),
-    (
-        2,
-        Some((4, NeedKind::Parent { line: 2, order: 4 })),
-        Supplied::Order(2),
-        6,
-    ),
-    (2, None, Supplied::Order(2), 41),
-];
-
-// Fails unless these are the pegs of the last item of a plan.
-fn has_last_pegs(rt: &impl Abort, alloc: Global, plan: &Plan, want: &[Cells]) {
-    let items = plan.inputs().shop().tables().items().len();
-    assert!(rt; items > 0);
-    let own = item_pegs(alloc, plan, items - 1).expect(rt, "pegs");
-    are_pegs(rt, own.as_slice(), want);
-    drop(own);
-}
-
-#[test]
-fn service_part_demand_is_a_requirement(rt: HostRuntime) {
-    let plan = made(&rt, bicycles_with_service().plan(rt.alloc(), morning()));
-    has_last_pegs(&rt, rt.alloc(), &plan, WHEEL_PEGS);
-    drop(plan);
+fn starts_and_each_of_two_lines_are_required_and_what_is_left_is_surplus(rt: HostRuntime) {
+    let bicycles = Records {
+        bills: "BIKE,FRAME,1\nBIKE,WHEEL,1\nBIKE,WHEEL,1\n",
+        ..bicycles_in_lots()
+    };
+    let shops = [
+        (bicycles, morning(), BICYCLE_PEGS),
+        (products(), product_bookings(), PRODUCT_PEGS),
+    ];
+    for (shop, calls, want) in shops {
+        let plan = made(&rt, shop.plan(rt.alloc(), calls));
+        has_pegs(&rt, rt.alloc(), &plan, want);
+        drop(plan);
+    }
 }

@@ -1,6 +1,6 @@
 //! Texts of reports and histories.
 
-use super::streams::{ALL, FAILS, acts, writer};
+use super::streams::{ALL, FAILS, writer};
 use super::texts::{BICYCLE_REPORT, CALLED};
 use super::{made, same};
 use mrp_item::Plan;
@@ -12,13 +12,6 @@ use std::alloc::Global;
 use std::io::{Eprint, Write};
 use std::process::Abort;
 use std::thread::Threads;
-
-// Fails unless the text was written.
-fn has_text(rt: &impl Abort, writer: Told<Vec<u8>>, want: &str) {
-    let text = String::from_utf8(writer.into_inner()).expect(rt, "text");
-    same(rt, text.as_str(), want);
-    drop(text);
-}
 
 // The report of a plan.
 pub fn report_of<R: Alloc + Abort + Threads + Sync>(rt: &R, alloc: Global, plan: &Plan) -> String {
@@ -34,9 +27,9 @@ pub fn has_report<R: Alloc + Abort + Threads + Sync>(
     plan: &Plan,
     want: &str,
 ) {
-    let mut writer = Told::new(Vec::new(alloc));
-    same(rt, write_report(rt, alloc, plan, &mut writer, 1), Ok(()));
-    has_text(rt, writer, want);
+    let report = report_of(rt, alloc, plan);
+    same(rt, report.as_str(), want);
+    drop(report);
 }
 
 // Writers that fail or are interrupted too often, and how many bytes they take before.
@@ -75,13 +68,6 @@ const FAILING: [(Acts<'static>, usize); 4] = [
     ),
 ];
 
-// Fails unless a writer has taken this text.
-fn has_taken(rt: &impl Abort, writer: Told<Fussy<'_>>, text: &str) {
-    let writer = writer.into_inner();
-    same(rt, writer.taken(), text.as_bytes());
-    drop(writer);
-}
-
 // Fails unless the write failed, and the writer has taken this number of bytes of the text.
 fn has_front(
     rt: &impl Abort,
@@ -104,24 +90,6 @@ fn a_failing_writer_has_a_front_of_the_report(rt: HostRuntime) {
         let written = write_report(&rt, rt.alloc(), &plan, &mut writer, 1);
         has_front(&rt, written, writer, BICYCLE_REPORT, count);
     }
-    drop(plan);
-}
-
-// A writer that is interrupted 1,000,000 times, before its first byte and after it.
-const PATIENT: &[Stretch] = &[
-    Stretch(500_000, Act::Interrupts),
-    Stretch(100, Act::Moves(1)),
-    Stretch(500_000, Act::Interrupts),
-];
-
-#[test]
-fn a_report_is_written_after_a_million_interruptions(rt: HostRuntime) {
-    let plan = made(&rt, bicycles().plan(rt.alloc(), &[]));
-    let mut writer = writer(rt.alloc(), acts(PATIENT, ALL));
-    let written = write_report(&rt, rt.alloc(), &plan, &mut writer, 1);
-    same(&rt, written, Ok(()));
-    same(&rt, writer.interrupted(), 1_000_000);
-    has_taken(&rt, writer, BICYCLE_REPORT);
     drop(plan);
 }
 
@@ -159,57 +127,10 @@ const CALLS: &[(u64, Asked)] = &[
 ];
 
 #[test]
-fn each_call_and_reply_has_its_row(rt: HostRuntime) {
-    let mut writer = Told::new(Vec::new(rt.alloc()));
-    same(
-        &rt,
-        write_calls(&rt, rt.alloc(), CALLS, &mut writer),
-        Ok(()),
-    );
-    same(&rt, writer.calls(), 1);
-    has_text(&rt, writer, CALLED);
-}
-
-#[test]
 fn a_failing_writer_has_a_front_of_the_history(rt: HostRuntime) {
     for (acts, count) in FAILING {
         let mut writer = writer(rt.alloc(), acts);
         let written = write_calls(&rt, rt.alloc(), CALLS, &mut writer);
         has_front(&rt, written, writer, CALLED, count);
     }
-}
-
-// Calls in which desk 64 asks for the front.
-fn fronts(rt: &impl Abort, alloc: Global, count: u64) -> Vec<(u64, Asked)> {
-    let mut calls = Vec::new(alloc);
-    for _ in 0..count {
-        calls.push((64, Asked::Front)).expect(rt, "memory");
-    }
-    calls
-}
-
-// The text of their history.
-fn fronts_text(rt: &impl Abort, alloc: Global, count: u64) -> String {
-    let head = "[history]\nentry,desk,call,item,week,quantity,number,reply,value\n";
-    let mut text = String::from_str(alloc, head).expect(rt, "memory");
-    for number in 1..=count {
-        let row = format!(in alloc; "{number},64,front,,,,,front,{number}\n").expect(rt, "memory");
-        text.push_str(&row).expect(rt, "memory");
-    }
-    text
-}
-
-#[test]
-fn a_long_history_is_written_page_by_page(rt: HostRuntime) {
-    let calls = fronts(&rt, rt.alloc(), 100_000);
-    let mut writer = Told::new(Vec::new(rt.alloc()));
-    same(
-        &rt,
-        write_calls(&rt, rt.alloc(), &calls, &mut writer),
-        Ok(()),
-    );
-    assert!(rt; 10 < writer.calls() && writer.calls() < 100);
-    let want = fronts_text(&rt, rt.alloc(), 100_000);
-    has_text(&rt, writer, &want);
-    drop((calls, want));
 }

@@ -1,11 +1,5 @@
 //! Expected texts.
 
-// The history of a script without a record: only the run that is added.
-pub const BICYCLE_HISTORY: &str = "\
-[history]\n\
-entry,desk,call,item,week,quantity,number,reply,value\n\
-1,1,run,,,,,front,1\n";
-
 // The report of a run of the bicycle shop, without bookings.
 pub const BICYCLE_REPORT: &str = "\
 [run]\n\
@@ -66,18 +60,6 @@ FRAME,planned,1,RELEASE,\n\
 WHEEL,planned,1,RELEASE,\n\
 [loads]\n\
 centre,week,load,capacity,over\n";
-
-// What two desks booked and asked, and a run.
-pub const LOTS_HISTORY: &str = "\
-[history]\n\
-entry,desk,call,item,week,quantity,number,reply,value\n\
-1,1,book,BIKE,3,12,,booked,1\n\
-2,1,book,BIKE,5,25,,booked,2\n\
-3,2,ask,BIKE,1,,,available,10\n\
-4,2,book,BIKE,2,15,,short,10\n\
-5,2,book,BIKE,1,10,,booked,5\n\
-6,1,ask,BIKE,3,,,available,3\n\
-7,1,run,,,,,front,7\n";
 
 // The report of the run of the bicycle shop with lots.
 pub const LOTS_REPORT: &str = "\
@@ -155,15 +137,6 @@ FRAME,open,R1,IN,1\n\
 WHEEL,planned,1,PAST-DUE,1\n\
 [loads]\n\
 centre,week,load,capacity,over\n";
-
-// What the report also has if frames are welded: the loads.
-pub const WELD_LOADS: &str = "\
-WELD,1,175.000,100.000,75.000\n\
-WELD,2,0.000,100.000,0.000\n\
-WELD,3,0.000,80.000,0.000\n\
-WELD,4,0.000,100.000,0.000\n\
-WELD,5,0.000,100.000,0.000\n\
-WELD,6,0.000,100.000,0.000\n";
 
 // The report of a run of the bicycle shop with screws at three levels.
 pub const SCREW_REPORT: &str = "\

@@ -10,97 +10,60 @@ use sample_shops::{
 use std::alloc::Global;
 use std::process::Abort;
 
-// Fails unless a requirement has these sources and these causes.
-fn goes_back(
-    rt: &impl Abort,
-    alloc: Global,
-    plan: &Plan,
-    need: &Need,
-    pegs: &[Cells],
-    causes: &[Cause],
-) {
-    let own = sources(alloc, plan, need).expect(rt, "sources");
-    are_pegs(rt, own.as_slice(), pegs);
-    let ends = trace(alloc, plan, need).expect(rt, "trace");
-    same(rt, ends.as_slice(), causes);
-    drop((own, ends));
-}
+// A requirement: item, week and kind; its sources and its causes.
+type Back = ((usize, u16, NeedKind), &'static [Cells], &'static [Cause]);
 
-// The requirement of a booking of the first item.
-fn booking(week: u16, number: u64) -> Need {
-    let kind = NeedKind::Booking(number);
-    Need {
-        item: 0,
-        week,
-        kind,
+// Fails unless the requirements of a plan go back so.
+fn go_back(rt: &impl Abort, alloc: Global, plan: &Plan, want: &[Back]) {
+    for ((item, week, kind), pegs, causes) in want {
+        let need = Need {
+            item: *item,
+            week: *week,
+            kind: *kind,
+        };
+        let own = sources(alloc, plan, &need).expect(rt, "sources");
+        are_pegs(rt, own.as_slice(), pegs);
+        let ends = trace(alloc, plan, &need).expect(rt, "trace");
+        same(rt, ends.as_slice(), *causes);
+        drop((own, ends));
     }
 }
 
-// The requirement of a service row of the wheels.
-fn service(week: u16, row: u64) -> Need {
-    let kind = NeedKind::Service(row);
-    Need {
-        item: 2,
-        week,
-        kind,
-    }
-}
-
-// The requirement of an item that an order of a parent makes by a bill line.
-fn asked(item: usize, week: u16, line: usize, order: usize) -> Need {
-    let kind = NeedKind::Parent { line, order };
-    Need { item, week, kind }
-}
-
-#[test]
-fn a_frame_is_for_a_forecast_and_surplus_of_bicycles(rt: HostRuntime) {
-    let plan = made(&rt, bicycles().plan(rt.alloc(), &[]));
-    let pegs = &[
+// A frame is for a forecast and for surplus of bicycles.
+const FRAMES: &[Back] = &[(
+    (1, 2, NeedKind::Parent { line: 1, order: 1 }),
+    &[
         (0, Some((4, NeedKind::Forecast)), Supplied::Order(1), 4),
         (0, None, Supplied::Order(1), 16),
-    ];
-    let causes = &[
+    ],
+    &[
         Cause::Forecast { item: 0, week: 4 },
         Cause::Surplus { item: 0, order: 1 },
-    ];
-    goes_back(&rt, rt.alloc(), &plan, &asked(1, 2, 1, 1), pegs, causes);
-    drop(plan);
-}
+    ],
+)];
 
-#[test]
-fn a_booking_is_its_own_cause_and_what_is_not_there_has_none(rt: HostRuntime) {
-    let plan = made(&rt, bicycles_in_lots().plan(rt.alloc(), morning()));
-    let itself = &[Cause::Booking { item: 0, number: 2 }];
-    goes_back(&rt, rt.alloc(), &plan, &booking(5, 2), &[], itself);
-    goes_back(&rt, rt.alloc(), &plan, &booking(5, 4), &[], &[]);
-    goes_back(&rt, rt.alloc(), &plan, &asked(1, 3, 1, 1), &[], &[]);
-    goes_back(&rt, rt.alloc(), &plan, &asked(9, 1, 1, 1), &[], &[]);
-    drop(plan);
-}
+// A booking is its own cause, and what is not there has none.
+const BOOKINGS: &[Back] = &[
+    (
+        (0, 5, NeedKind::Booking(2)),
+        &[],
+        &[Cause::Booking { item: 0, number: 2 }],
+    ),
+    ((0, 5, NeedKind::Booking(4)), &[], &[]),
+    ((1, 3, NeedKind::Parent { line: 1, order: 1 }), &[], &[]),
+    ((9, 1, NeedKind::Parent { line: 1, order: 1 }), &[], &[]),
+];
 
-#[test]
-fn service_part_demand_is_its_own_cause(rt: HostRuntime) {
-    let plan = made(&rt, bicycles_with_service().plan(rt.alloc(), morning()));
-    let itself = &[Cause::Service { item: 2, row: 5 }];
-    goes_back(&rt, rt.alloc(), &plan, &service(3, 5), &[], itself);
-    goes_back(&rt, rt.alloc(), &plan, &service(4, 5), &[], &[]);
-    goes_back(&rt, rt.alloc(), &plan, &service(3, 4), &[], &[]);
-    drop(plan);
-}
-
-// Towers of three levels: the lot of A serves both firm orders of TOP, and has surplus.
-fn towers() -> Records<'static> {
-    Records {
-        items: "TOP,master,1,0,lfl,0,0\nA,part,1,0,fixed,25,0\nB,part,0,0,lfl,0,0\n",
-        bills: "TOP,A,1\nA,B,1\n",
-        master: "\
-TOP,firm,2025-01-20,10\n\
-TOP,firm,2025-02-03,10\n\
-TOP,forecast,2025-01-20,8\n\
-TOP,forecast,2025-02-03,6\n",
-        ..no_records()
-    }
-}
+// So is service part demand.
+const SERVICE: &[Back] = &[
+    (
+        (2, 3, NeedKind::Service(5)),
+        &[],
+        &[Cause::Service { item: 2, row: 5 }],
+    ),
+    ((2, 4, NeedKind::Service(5)), &[], &[]),
+    ((2, 3, NeedKind::Service(4)), &[], &[]),
+];
 
 // The sources of the requirement of B that A's lot makes, and its causes. The forecast of week 5 is
 // served by both firm orders, and is one cause.
@@ -128,16 +91,37 @@ const LOT_CAUSES: &[Cause] = &[
     Cause::Surplus { item: 1, order: 1 },
 ];
 
+const LOTS: &[Back] = &[(
+    (2, 1, NeedKind::Parent { line: 2, order: 1 }),
+    LOT_PEGS,
+    LOT_CAUSES,
+)];
+
+// Towers of three levels: the lot of A serves both firm orders of TOP, and has surplus.
+fn towers() -> Records<'static> {
+    Records {
+        items: "TOP,master,1,0,lfl,0,0\nA,part,1,0,fixed,25,0\nB,part,0,0,lfl,0,0\n",
+        bills: "TOP,A,1\nA,B,1\n",
+        master: "\
+TOP,firm,2025-01-20,10\n\
+TOP,firm,2025-02-03,10\n\
+TOP,forecast,2025-01-20,8\n\
+TOP,forecast,2025-02-03,6\n",
+        ..no_records()
+    }
+}
+
 #[test]
-fn a_part_of_a_part_goes_back_to_all_that_its_lot_is_for(rt: HostRuntime) {
-    let plan = made(&rt, towers().plan(rt.alloc(), &[(1, Asked::Book(3, 5))]));
-    goes_back(
-        &rt,
-        rt.alloc(),
-        &plan,
-        &asked(2, 1, 2, 1),
-        LOT_PEGS,
-        LOT_CAUSES,
-    );
-    drop(plan);
+fn requirements_go_back_to_what_they_are_for(rt: HostRuntime) {
+    let shops: [(Records, &[(u64, Asked)], &[Back]); 4] = [
+        (bicycles(), &[], FRAMES),
+        (bicycles_in_lots(), morning(), BOOKINGS),
+        (bicycles_with_service(), morning(), SERVICE),
+        (towers(), &[(1, Asked::Book(3, 5))], LOTS),
+    ];
+    for (shop, calls, want) in shops {
+        let plan = made(&rt, shop.plan(rt.alloc(), calls));
+        go_back(&rt, rt.alloc(), &plan, want);
+        drop(plan);
+    }
 }

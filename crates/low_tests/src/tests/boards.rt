@@ -8,7 +8,7 @@ use super::{made, same};
 use mrp_board::{Board, BoardCall, BoardRefused, BoardReply, BoardState};
 use mrp_item::{Inputs, Outcome};
 use mrp_turn::{CallFault, Seat, Turn};
-use sample_shops::{Records, bicycles, no_records};
+use sample_shops::bicycles;
 use std::alloc::Global;
 use std::process::Abort;
 use std::sync::{Arc, Wait};
@@ -98,8 +98,8 @@ fn answer<R: Wait + Abort>(
 }
 
 impl Run {
-    fn open(rt: &impl Abort, alloc: Global, records: Records) -> Run {
-        let inputs = made(rt, records.inputs(alloc, &[]));
+    fn open(rt: &impl Abort, alloc: Global) -> Run {
+        let inputs = made(rt, bicycles().inputs(alloc, &[]));
         let outcomes = made(rt, outcomes_of(alloc, &inputs));
         let (turn, first, second) = two_workers(rt, alloc, &inputs);
         drop(inputs);
@@ -140,9 +140,9 @@ impl Run {
     }
 }
 
-#[test]
-fn a_worker_takes_and_finishes_each_item(rt: HostRuntime) {
-    const CALLS: &[(bool, Asks, Hears)] = &[
+// A worker takes and finishes each item; none is handed out after one gave up; each is finished by the worker that took it.
+const RUNS: [&[(bool, Asks, Hears)]; 3] = [
+    &[
         (true, Asks::Take, Hears::Item(0, None)),
         (true, Asks::Take, Hears::NotYet),
         (true, Asks::Finish(0), Hears::Stored),
@@ -150,27 +150,13 @@ fn a_worker_takes_and_finishes_each_item(rt: HostRuntime) {
         (true, Asks::Take, Hears::Item(2, Some(0))),
         (true, Asks::Take, Hears::AllOut),
         (true, Asks::Finish(0), Hears::NotOut),
-    ];
-    let mut run = Run::open(&rt, rt.alloc(), bicycles());
-    run.tells(&rt, CALLS);
-    drop(run);
-}
-
-#[test]
-fn nothing_is_handed_out_after_a_worker_gave_up(rt: HostRuntime) {
-    const CALLS: &[(bool, Asks, Hears)] = &[
+    ],
+    &[
         (true, Asks::GiveUp, Hears::Stopped),
         (true, Asks::Take, Hears::AllOut),
         (false, Asks::Take, Hears::AllOut),
-    ];
-    let mut run = Run::open(&rt, rt.alloc(), bicycles());
-    run.tells(&rt, CALLS);
-    drop(run);
-}
-
-#[test]
-fn an_item_is_finished_by_the_worker_that_took_it(rt: HostRuntime) {
-    const CALLS: &[(bool, Asks, Hears)] = &[
+    ],
+    &[
         (true, Asks::Finish(0), Hears::NotOut),
         (true, Asks::Take, Hears::Item(0, None)),
         (false, Asks::Finish(0), Hears::NotOut),
@@ -181,18 +167,16 @@ fn an_item_is_finished_by_the_worker_that_took_it(rt: HostRuntime) {
         (true, Asks::Finish(2), Hears::Stored),
         (false, Asks::Finish(1), Hears::Stored),
         (false, Asks::Take, Hears::AllOut),
-    ];
-    let mut run = Run::open(&rt, rt.alloc(), bicycles());
-    run.tells(&rt, CALLS);
-    drop(run);
-}
+    ],
+];
 
 #[test]
-fn a_board_without_items_is_at_its_end(rt: HostRuntime) {
-    const CALLS: &[(bool, Asks, Hears)] = &[(true, Asks::Take, Hears::AllOut)];
-    let mut run = Run::open(&rt, rt.alloc(), no_records());
-    run.tells(&rt, CALLS);
-    drop(run);
+fn workers_take_and_finish_items_in_turn(rt: HostRuntime) {
+    for calls in RUNS {
+        let mut run = Run::open(&rt, rt.alloc());
+        run.tells(&rt, calls);
+        drop(run);
+    }
 }
 
 // How many places for outcomes a new board has, and whether the first has one, and a worker has to wait.

@@ -1,17 +1,17 @@
-//! Order books: days of desks, snapshots, and states without entries.
+//! Order books: full ones, copies of replies, and states without entries.
 
 ghost use Rattle.std.specs.Prelude.{◌≡◌};
 ghost use Rattle.mrp_master.specs.Supply.{supply_of};
 
-use super::{MOST, made, pieces, same};
+use super::{made, pieces, same};
 use mrp_bill::Shop;
-use mrp_book::{Book, BookState, Booking, History, Line, Refused, Reply, Snapshot};
+use mrp_book::{Book, BookState, Booking, Line, Refused, Reply, Snapshot};
 use mrp_phase::PhaseFault;
-use sample_shops::{Asked, Said, bicycles, said};
+use sample_shops::{Asked, Records, Said, bicycles, said};
 use std::alloc::Global;
 use std::process::Abort;
 
-// The order book of the bicycles: 10 are on hand, and 20 are firm in each of the weeks 3 and 5.
+// A shop and its order book.
 #[derive(Drop)]
 struct Day {
     shop: Shop,
@@ -20,17 +20,16 @@ struct Day {
 }
 
 impl Day {
-    fn open(rt: &impl Abort, alloc: Global) -> Day {
-        let shop = made(rt, bicycles().shop(alloc));
+    fn open(rt: &impl Abort, alloc: Global, records: Records<'_>) -> Day {
+        let shop = made(rt, records.shop(alloc));
         let book = Book::open(alloc, &shop).expect(rt, "memory");
         Day { shop, book }
     }
 
-    // The answer to a desk's call: the entry's number, and the reply.
-    fn call(&mut self, rt: &impl Abort, alloc: Global, desk: u64, asked: Asked) -> (u64, Reply) {
-        assert!(rt; 1 <= desk && desk <= 64);
+    // The answer to a call of desk 1: the entry's number, and the reply.
+    fn call(&mut self, rt: &impl Abort, alloc: Global, asked: Asked) -> (u64, Reply) {
         let call = made(rt, asked.call(&self.shop));
-        self.book.call(alloc, desk, call).expect(rt, "a reply")
+        self.book.call(alloc, 1, call).expect(rt, "a reply")
     }
 
     // Fails unless the book refuses a call because it is full.
@@ -44,29 +43,10 @@ impl Day {
 // A desk, its call, and the reply.
 type Answered = (u64, Asked, Said);
 
-// Fails unless the calls have these replies, in entries numbered from the first on.
-fn are_answered(rt: &impl Abort, alloc: Global, day: &mut Day, first: u64, script: &[Answered]) {
-    for (number, (desk, asked, want)) in (first..).zip(script) {
-        let (got, reply) = day.call(rt, alloc, *desk, *asked);
-        same(rt, (got, said(&reply)), (number, *want));
-        drop(reply);
-    }
-}
-
-// The first six calls of a day of two desks.
-const MORNING: &[Answered] = &[
-    (1, Asked::Book(3, 12), ("booked", 1)),
-    (1, Asked::Book(5, 25), ("booked", 2)),
-    (2, Asked::Ask(1), ("available", 10)),
-    (2, Asked::Book(2, 15), ("short", 10)),
-    (2, Asked::Book(1, 10), ("booked", 5)),
-    (1, Asked::Ask(3), ("available", 3)),
-];
-
 // Asks for so many fronts, the first calls of a day.
 fn ask_fronts(rt: &impl Abort, alloc: Global, day: &mut Day, count: u64) {
     for number in 1..=count {
-        let (got, reply) = day.call(rt, alloc, 1, Asked::Front);
+        let (got, reply) = day.call(rt, alloc, Asked::Front);
         same(rt, (got, said(&reply)), (number, ("front", number)));
         drop(reply);
     }
@@ -82,19 +62,12 @@ fn a_full_book_refuses_every_call(rt: HostRuntime) {
         Asked::When(1),
         Asked::Snapshot,
     ];
-    let mut day = Day::open(&rt, rt.alloc());
+    let mut day = Day::open(&rt, rt.alloc(), bicycles());
     ask_fronts(&rt, rt.alloc(), &mut day, 1_000_000);
     for asked in CALLS {
         day.is_full_for(&rt, rt.alloc(), asked);
     }
     drop(day);
-}
-
-// A day after its first six calls.
-fn morning(rt: &impl Abort, alloc: Global) -> Day {
-    let mut day = Day::open(rt, alloc);
-    are_answered(rt, alloc, &mut day, 1, MORNING);
-    day
 }
 
 // The snapshot of a reply.
@@ -122,60 +95,6 @@ fn stand(rt: &impl Abort, snapshot: &Snapshot, want: &[Booked]) {
         let said = (got.number, got.desk, line.week(), line.quantity().value());
         same(rt, (line.item(), said), (0, *booked));
     }
-}
-
-// The snapshot of a call of desk 1, whose entry must have this number.
-fn snapshot_at(rt: &impl Abort, alloc: Global, day: &mut Day, number: u64) -> Snapshot {
-    let (got, reply) = day.call(rt, alloc, 1, Asked::Snapshot);
-    let snapshot = taken(rt, reply);
-    same(rt, (got, snapshot.front()), (number, number));
-    snapshot
-}
-
-// Fails unless a history has this number of entries, and ends with a snapshot in which these bookings stand.
-fn ends_with(rt: &impl Abort, history: &History, count: usize, want: &[Booked]) {
-    let entries = history.entries();
-    same(rt, entries.len(), count);
-    let last = entries.last().expect(rt, "an entry");
-    let Reply::Taken(snapshot) = &last.reply else {
-        panic!(rt; "a snapshot");
-    };
-    stand(rt, snapshot, want);
-}
-
-#[test]
-fn a_desk_cancels_its_own_bookings(rt: HostRuntime) {
-    const AFTERNOON: &[Answered] = &[
-        (2, Asked::Cancel(2), ("not-yours", 0)),
-        (1, Asked::Cancel(2), ("cancelled", 0)),
-        (1, Asked::Cancel(2), ("not-standing", 0)),
-        (1, Asked::Cancel(4), ("not-standing", 0)),
-        (1, Asked::Ask(3), ("available", 8)),
-        (1, Asked::When(28), ("week", 5)),
-        (1, Asked::Snapshot, ("taken", 13)),
-    ];
-    let mut day = morning(&rt, rt.alloc());
-    are_answered(&rt, rt.alloc(), &mut day, 7, AFTERNOON);
-    let Day { shop, book } = day;
-    drop(shop);
-    let history = book.into_history();
-    ends_with(&rt, &history, 13, &[(1, 1, 3, 12), (5, 2, 1, 10)]);
-    drop(history);
-}
-
-#[test]
-fn what_is_available_grows_with_the_firm_rows(rt: HostRuntime) {
-    const QUESTIONS: &[Answered] = &[
-        (1, Asked::Ask(1), ("available", 10)),
-        (1, Asked::Ask(3), ("available", 30)),
-        (1, Asked::Ask(5), ("available", 50)),
-        (1, Asked::When(11), ("week", 3)),
-        (1, Asked::When(51), ("no-week", 0)),
-        (64, Asked::Front, ("front", 6)),
-    ];
-    let mut day = Day::open(&rt, rt.alloc());
-    are_answered(&rt, rt.alloc(), &mut day, 1, QUESTIONS);
-    drop(day);
 }
 
 // The snapshot at an entry, from these bookings.
@@ -215,72 +134,6 @@ fn copies_of_replies_say_the_same(rt: HostRuntime) {
         same(&rt, said(&copy), said(&reply));
         drop((reply, copy));
     }
-}
-
-// Fails unless these quantities of an item are booked by week.
-fn is_demanded(rt: &impl Abort, alloc: Global, snapshot: &Snapshot, item: usize, want: &[u64]) {
-    let demand = snapshot.demand(alloc, item).expect(rt, "memory");
-    same(rt, demand.weeks(), want.len());
-    for (quantity, count) in demand.as_slice().iter().zip(want) {
-        same(rt, quantity.value(), *count);
-    }
-    drop(demand);
-}
-
-// Fails unless the bookings of the morning stand, each as demand in its week.
-fn morning_stands(rt: &impl Abort, alloc: Global, snapshot: &Snapshot) {
-    same(rt, snapshot.weeks(), 6);
-    stand(rt, snapshot, &[(1, 1, 3, 12), (2, 1, 5, 25), (5, 2, 1, 10)]);
-    is_demanded(rt, alloc, snapshot, 0, &[10, 0, 12, 0, 25, 0]);
-    is_demanded(rt, alloc, snapshot, 1, &[0; 6]);
-}
-
-// Fails unless a booking that is cancelled after the morning is no longer demand, but is still in the
-// snapshot before.
-fn falls_by_a_cancellation(rt: &impl Abort, alloc: Global, day: &mut Day) {
-    let before = snapshot_at(rt, alloc, day, 7);
-    morning_stands(rt, alloc, &before);
-    let cancelled: Answered = (1, Asked::Cancel(2), ("cancelled", 0));
-    are_answered(rt, alloc, day, 8, &[cancelled]);
-    let after = snapshot_at(rt, alloc, day, 9);
-    is_demanded(rt, alloc, &after, 0, &[10, 0, 12, 0, 0, 0]);
-    morning_stands(rt, alloc, &before);
-    drop((before, after));
-}
-
-#[test]
-fn desks_book_until_nothing_is_available_and_what_stands_is_demanded(rt: HostRuntime) {
-    let mut day = morning(&rt, rt.alloc());
-    falls_by_a_cancellation(&rt, rt.alloc(), &mut day);
-    drop(day);
-}
-
-// The snapshot at an entry, from a million bookings of the greatest number of pieces, and these.
-fn snapshot_of_a_million(
-    rt: &impl Abort,
-    alloc: Global,
-    more: &[Booked],
-) -> Result<Snapshot, PhaseFault> {
-    let shop = made(rt, bicycles().shop(alloc));
-    let mut standing = Vec::with_capacity(alloc, 1_000_001).expect(rt, "memory");
-    for number in 1..1_000_001 {
-        let one = booking(rt, &shop, &(number, 1, 3, 1_000_000_000));
-        standing.push(one).expect(rt, "memory");
-    }
-    for one in more {
-        standing.push(booking(rt, &shop, one)).expect(rt, "memory");
-    }
-    drop(shop);
-    Snapshot::new(alloc, 1_000_002, 4, standing)
-}
-
-#[test]
-fn a_snapshot_has_at_most_the_greatest_quantity(rt: HostRuntime) {
-    let snapshot = snapshot_of_a_million(&rt, rt.alloc(), &[]).expect(&rt, "a snapshot");
-    is_demanded(&rt, rt.alloc(), &snapshot, 0, &[0, 0, MOST, 0]);
-    drop(snapshot);
-    let more = snapshot_of_a_million(&rt, rt.alloc(), &[(1_000_001, 1, 4, 1)]);
-    same(&rt, more.err(), Some(PhaseFault::TooLarge));
 }
 
 // The state of the shop's book, without its entries.

@@ -1,29 +1,7 @@
-//! Bundles, split into their sections.
+//! Bundles, split into their sections, and tables joined to bundles.
 
-use super::{one_of_nine, same};
-use mrp_rows::{Table, split_bundle};
-
-#[test]
-fn sections_come_in_any_order_with_their_texts(rt: HostRuntime) {
-    const BUNDLE: &[u8] =
-        b"\n[script]\n9\n[master]\r\n8,[\r\n[routings]\r7\r[bills]\n\n6\n\n[receipts]\n5[receipts]\n[stock]\n4\n[centres]\n3\n[items]\n2\n[calendar]\n1";
-    const TEXTS: &[(Table, &[u8])] = &[
-        (Table::Calendar, b"1"),
-        (Table::Items, b"2\n"),
-        (Table::Centres, b"3\n"),
-        (Table::Stock, b"4\n"),
-        (Table::Receipts, b"5[receipts]\n"),
-        (Table::Bills, b"6\n\n"),
-        (Table::Routings, b"7\r"),
-        (Table::Master, b"8,[\r\n"),
-        (Table::Script, b"9\n"),
-    ];
-    let sections = split_bundle(BUNDLE).expect(&rt, "sections");
-    for (table, want) in TEXTS {
-        let text = sections.text_of(one_of_nine(&rt, *table));
-        same(&rt, (*table, text), (*table, *want));
-    }
-}
+use super::same;
+use mrp_rows::{Table, join_bundle, split_bundle};
 
 // What follows a section line, and the section's text.
 const FRONTS: &[(&str, &str)] = &[
@@ -56,6 +34,18 @@ fn line_ends_and_then_one_mark_go_from_a_section_text(rt: HostRuntime) {
             (*following, sections.text_of(Table::Stock)),
             (*following, want.as_bytes()),
         );
-        same(&rt, sections.text_of(Table::Items).len(), 0);
     }
+}
+
+#[test]
+fn a_part_is_its_section_line_its_bytes_and_a_line_feed(rt: HostRuntime) {
+    const PARTS: &[(Table, &[u8])] = &[
+        (Table::Stock, b"item,onhand\nBIKE,10"),
+        (Table::Items, b""),
+        (Table::Script, b"\n"),
+    ];
+    const BUNDLE: &[u8] = b"[stock]\nitem,onhand\nBIKE,10\n[items]\n\n[script]\n\n\n";
+    let bundle = join_bundle(rt.alloc(), PARTS).expect(&rt, "memory");
+    same(&rt, bundle.as_slice(), BUNDLE);
+    drop(bundle);
 }

@@ -1,11 +1,9 @@
 //! Files that are put into folders whole, whose calls and writes fail in turn, and journals that are sealed.
 
 use super::same;
-use mrp_folder::{DiskFolder, KeepFault, MemoryFolder, SealedJournal, keep_text};
+use mrp_folder::{KeepFault, MemoryFolder, SealedJournal, keep_text};
 use mrp_journal::{MemoryStore, Store};
 use std::alloc::Global;
-use std::fs;
-use std::test::Fail;
 
 // Whether a file is put into a folder whose calls fail after so many, and its writes after so many; how many files
 // have a name then.
@@ -37,29 +35,6 @@ fn a_file_that_failed_comes_back(rt: HostRuntime) {
     };
     same(&rt, failures, 1);
     drop(folder);
-}
-
-#[test]
-fn a_file_in_a_folder(rt: HostRuntime) -> Result<(), Fail> {
-    const PATH: &str = "out/run-7.day";
-    let alloc = rt.alloc();
-    fs::create_dir_all(&rt, "out")?;
-    let mut folder = DiskFolder::new(&rt, alloc, "out", "run.part");
-    let first = keep_text(&mut folder, b"an older text", "run-7.day").is_ok();
-    let second = keep_text(&mut folder, b"some text", "run-7.day").is_ok();
-    let left = fs::read(&rt, PATH)?;
-    let part = fs::exists(&rt, "out/run.part")?;
-    same(
-        &rt,
-        (first, second, part, left.as_slice()),
-        (true, true, false, b"some text".as_slice()),
-    );
-    drop(left);
-    fs::remove_file(&rt, PATH)?;
-    let mut nowhere = DiskFolder::new(&rt, alloc, "out/none", "run.part");
-    let none = keep_text(&mut nowhere, b"some text", "run-7.day").is_err();
-    same(&rt, none, true);
-    Ok(())
 }
 
 // Whether a record is appended to a journal where the calls of the folder of its seal fail after so many; how many bytes

@@ -2,7 +2,7 @@
 
 use super::same;
 use super::told::fake_reader;
-use mrp_intake::{Intake, first_line};
+use mrp_intake::Intake;
 use mrp_rows::devices::{Act, Stretch};
 use std::io::ErrorKind;
 
@@ -36,17 +36,4 @@ fn a_read_fails(rt: HostRuntime) {
     same(&rt, intake.next_batch(&mut reader).is_ok(), false);
     drop(intake);
     drop(reader);
-}
-
-#[test]
-fn the_first_line_has_its_line_feed(rt: HostRuntime) {
-    for (text, count) in [
-        (b"\nab".as_slice(), 1),
-        (b"ab\nc".as_slice(), 3),
-        (b"ab".as_slice(), 2),
-    ] {
-        if !text.is_empty() {
-            same(&rt, first_line(text).0.len(), count);
-        }
-    }
 }

@@ -1,4 +1,4 @@
-//! Journals in memory, whose calls fail in turn, and in a file.
+//! Journals in memory, whose calls fail in turn.
 
 ghost use Rattle.std.specs.Prelude.{◌≡◌, []};
 ghost use Rattle.mrp_journal.specs.Held.{settled};
@@ -6,35 +6,17 @@ ghost use Rattle.mrp_journal.specs.Memory.{memory_held};
 
 use super::same;
 use super::told::{counts, fake_writer};
-use mrp_journal::{JournalFile, MemoryStore, begin, settle, whole_lines};
+use mrp_journal::{MemoryStore, begin, settle};
 use mrp_rows::Told;
 use mrp_rows::devices::{Act, Fussy, Stretch};
 use std::alloc::Global;
-use std::fs;
-use std::fs::File;
-use std::io::{ErrorKind, Write};
-use std::test::Fail;
+use std::io::ErrorKind;
 
 const HEADER: &[u8] = b"desk,call,item,date,quantity,number\n";
 
 const RECORD: &[u8] = b"1,run,,,,\n";
 
 const ANSWER: &[u8] = b"1,1,run,,,,,front,1\n";
-
-#[test]
-fn half_a_line_is_no_whole_line(rt: HostRuntime) {
-    const TEXTS: &[(&[u8], usize)] = &[
-        (b"", 0),
-        (b"1,run", 0),
-        (b"1,run,,,,\n", 10),
-        (b"1,run,,,,\n2,bo", 10),
-        (b"1,run,,,,\r2,bo", 10),
-        (b"\"a\nb", 3),
-    ];
-    for (text, count) in TEXTS {
-        same(&rt, whole_lines(text).len(), *count);
-    }
-}
 
 // Begins a journal in an empty file, and settles a batch in it. Whether that succeeds.
 fn is_settled(journal: &mut MemoryStore, out: &mut Told<Fussy<'_>>) -> bool
@@ -92,36 +74,4 @@ fn a_flush_is_tried_again(rt: HostRuntime) {
     same(&rt, counts(&out), (4, 2, 0));
     drop(out);
     drop(journal);
-}
-
-#[test]
-fn a_journal_in_a_file(rt: HostRuntime) -> Result<(), Fail> {
-    const PATH: &str = "out/journal.csv";
-    let alloc = rt.alloc();
-    let _ = fs::create_dir(&rt, "out");
-    File::create(&rt, PATH)?.write_all(b"desk,call,item,date,quantity,number\n1,ru")?;
-    let file = File::options().append(true).open(&rt, PATH)?;
-    let mut journal = JournalFile::new(file);
-    let mut out = fake_writer(alloc, &[]);
-    let begun = begin(
-        &mut journal,
-        b"desk,call,item,date,quantity,number\n1,ru",
-        b"",
-    )
-    .is_ok();
-    let done = begun && settle(&mut journal, RECORD, ANSWER, &mut out).is_ok();
-    drop(journal);
-    drop(out);
-    let left = fs::read(&rt, PATH)?;
-    same(
-        &rt,
-        (done, left.as_slice()),
-        (
-            true,
-            b"desk,call,item,date,quantity,number\n1,run,,,,\n".as_slice(),
-        ),
-    );
-    drop(left);
-    fs::remove_file(&rt, PATH)?;
-    Ok(())
 }

@@ -43,112 +43,47 @@ fn comes<L: Lot>(rt: &impl Abort, alloc: Global, gross: &[u64; 6], lot: &L, want
 }
 
 #[test]
-fn bikes_come_lot_for_lot(rt: HostRuntime) {
-    let gross = [0, 8, 0, 0, 3, 0];
-    comes(&rt, rt.alloc(), &gross, &LotForLot, &[0, 8, 8, 8, 11, 11]);
+fn each_rule_orders_what_is_lacking(rt: HostRuntime) {
+    let alloc = rt.alloc();
+    let bikes = [0, 8, 0, 0, 3, 0];
+    comes(&rt, alloc, &bikes, &LotForLot, &[0, 8, 8, 8, 11, 11]);
+    let frames = [1, 20, 0, 8, 0, 0];
+    let twenties = Fixed::new(20);
+    comes(&rt, alloc, &frames, &twenties, &[20, 40, 40, 40, 40, 40]);
+    let wheels = [0, 26, 0, 46, 0, 0];
+    let pairs = Period::new(2);
+    comes(&rt, alloc, &wheels, &pairs, &[0, 26, 26, 72, 72, 72]);
+}
+
+// Fails unless orders for a number of weeks, with a minimum order quantity and an order multiple, make these receipts.
+fn comes_in_steps(rt: &impl Abort, alloc: Global, rule: (u64, u64, u64), rows: [&[u64; 6]; 2]) {
+    let (weeks, least, step) = rule;
+    let [gross, want] = rows;
+    let lot = Stepped::new(weeks, least, step).expect(rt, "a lot rule");
+    comes(rt, alloc, gross, &lot, want);
 }
 
 #[test]
-fn frames_come_in_lots_of_20(rt: HostRuntime) {
-    let gross = [1, 20, 0, 8, 0, 0];
-    comes(
-        &rt,
-        rt.alloc(),
-        &gross,
-        &Fixed::new(20),
-        &[20, 40, 40, 40, 40, 40],
-    );
-}
-
-#[test]
-fn wheels_come_for_two_weeks(rt: HostRuntime) {
-    let gross = [0, 26, 0, 46, 0, 0];
-    comes(
-        &rt,
-        rt.alloc(),
-        &gross,
-        &Period::new(2),
-        &[0, 26, 26, 72, 72, 72],
-    );
-}
-
-#[test]
-fn a_period_ends_with_the_horizon(rt: HostRuntime) {
-    let gross = [5, 0, 0, 0, 0, 7];
-    comes(
-        &rt,
-        rt.alloc(),
-        &gross,
-        &Period::new(5),
-        &[5, 5, 5, 5, 5, 12],
-    );
-    comes(&rt, rt.alloc(), &gross, &Period::new(104), &[12; 6]);
-}
-
-// Orders for a number of weeks with a minimum order quantity and an order multiple.
-fn stepped(rt: &impl Abort, weeks: u64, least: u64, step: u64) -> Stepped {
-    Stepped::new(weeks, least, step).expect(rt, "a lot rule")
-}
-
-#[test]
-fn bikes_come_5_or_more_in_fours(rt: HostRuntime) {
-    let gross = [0, 8, 0, 0, 3, 0];
-    comes(
-        &rt,
-        rt.alloc(),
-        &gross,
-        &stepped(&rt, 1, 5, 4),
-        &[0, 8, 8, 8, 16, 16],
-    );
-}
-
-#[test]
-fn wheels_come_50_or_more_in_dozens(rt: HostRuntime) {
-    let gross = [0, 26, 7, 46, 0, 0];
-    comes(
-        &rt,
-        rt.alloc(),
-        &gross,
-        &stepped(&rt, 2, 50, 12),
-        &[0, 60, 60, 120, 120, 120],
-    );
+fn orders_are_raised_to_a_minimum_and_rounded_up(rt: HostRuntime) {
+    const CASES: [((u64, u64, u64), [u64; 6], [u64; 6]); 3] = [
+        ((1, 5, 4), [0, 8, 0, 0, 3, 0], [0, 8, 8, 8, 16, 16]),
+        (
+            (2, 50, 12),
+            [0, 26, 7, 46, 0, 0],
+            [0, 60, 60, 120, 120, 120],
+        ),
+        ((1, 0, 2), [0, 0, 0, 0, 0, MOST], [0, 0, 0, 0, 0, MOST]),
+    ];
+    for (rule, gross, want) in CASES {
+        comes_in_steps(&rt, rt.alloc(), rule, [&gross, &want]);
+    }
 }
 
 #[test]
 fn lots_past_the_greatest_quantity_are_too_large(rt: HostRuntime) {
     let needs = needs_of(&rt, rt.alloc(), &[1, 0, 0, 0, 0, MOST - 1]);
     let third = Fixed::new(333_333_333_333_334);
-    same(
-        &rt,
-        receipts(rt.alloc(), &needs, &third).err(),
-        Some(NetFault::TooLarge),
-    );
-    let whole = Fixed::new(MOST);
-    comes(&rt, rt.alloc(), &[1, 0, 0, 0, 0, 0], &whole, &[MOST; 6]);
-}
-
-#[test]
-fn an_order_multiple_past_the_greatest_quantity_is_too_large(rt: HostRuntime) {
-    let needs = needs_of(&rt, rt.alloc(), &[0, 0, 0, 0, 0, MOST]);
-    let thirds = stepped(&rt, 1, 0, 3);
-    same(
-        &rt,
-        receipts(rt.alloc(), &needs, &thirds).err(),
-        Some(NetFault::TooLarge),
-    );
-    let pairs = stepped(&rt, 1, 0, 2);
-    let gross = [0, 0, 0, 0, 0, MOST];
-    comes(&rt, rt.alloc(), &gross, &pairs, &gross);
-}
-
-#[test]
-fn lots_have_a_period_and_a_multiple_within_limits(rt: HostRuntime) {
-    let most = 1_000_000_000;
-    assert!(rt; Stepped::new(1, 0, 1).is_some());
-    assert!(rt; Stepped::new(104, most, most).is_some());
-    assert!(rt; Stepped::new(0, 0, 1).is_none());
-    assert!(rt; Stepped::new(105, 0, 1).is_none());
-    assert!(rt; Stepped::new(1, most + 1, 1).is_none());
-    assert!(rt; Stepped::new(1, 0, 0).is_none());
-    assert!(rt; Stepped::new(1, 0, most + 1).is_none());
+    let received = receipts(rt.alloc(), &needs, &third).err();
+    same(&rt, received, Some(NetFault::TooLarge));
+    drop(needs);
 }

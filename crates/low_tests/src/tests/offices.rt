@@ -142,14 +142,6 @@ impl Pair {
         }
     }
 
-    // Fails unless the first calls have these replies. Each is given by whether it is the first desk's, the
-    // call, and the reply.
-    fn answers<R: Wait + Abort>(&mut self, rt: &R, calls: &[(bool, Asked, Said)]) {
-        for (number, (is_first, asked, want)) in (1..).zip(calls) {
-            same(rt, self.answer(rt, *is_first, *asked), (number, *want));
-        }
-    }
-
     // The second desk's answer when it meets the first: the entry's number, and the reply.
     fn meet<R: Wait + Abort>(&mut self, rt: &R) -> (u64, Said) {
         let met = self.office.meet(rt, &mut self.second, &mut self.first);
@@ -184,80 +176,6 @@ impl Pair {
         desks.push_reserved(second);
         office.close(desks)
     }
-}
-
-#[test]
-fn two_desks_call_on_one_book(rt: HostRuntime) {
-    const CALLS: &[(bool, Asked, Said)] = &[
-        (true, Asked::Book(3, 12), ("booked", 1)),
-        (true, Asked::Book(5, 25), ("booked", 2)),
-        (false, Asked::Ask(1), ("available", 10)),
-        (false, Asked::Book(2, 15), ("short", 10)),
-        (false, Asked::Book(1, 10), ("booked", 5)),
-        (true, Asked::Ask(3), ("available", 3)),
-        (false, Asked::Cancel(2), ("not-yours", 0)),
-        (true, Asked::Cancel(2), ("cancelled", 0)),
-        (true, Asked::Cancel(2), ("not-standing", 0)),
-        (true, Asked::Cancel(4), ("not-standing", 0)),
-        (true, Asked::Ask(3), ("available", 8)),
-        (true, Asked::When(28), ("week", 5)),
-        (false, Asked::Snapshot, ("taken", 13)),
-        (false, Asked::Front, ("front", 14)),
-    ];
-    let mut pair = Pair::open(&rt, rt.alloc());
-    pair.answers(&rt, CALLS);
-    same(&rt, pair.snapshot(&rt), (15, 15, 2));
-    drop(pair);
-}
-
-// The desk, after a number of calls for the front.
-fn after_fronts<R: Wait>(rt: &R, office: &Office, mut desk: Desk, times: u64) -> Desk
-    requires { desk.turn ≡ office.now }
-    ensures { result.turn ≡ desk.turn }
-{
-    for _ in 0..times {
-        let _ = office.front(rt, &mut desk);
-    }
-    desk
-}
-
-// Fails unless a call is refused because the book is full.
-fn is_refused<R: Wait + Abort>(rt: &R, office: &Office, desk: &mut Desk, asked: Asked)
-    requires { desk.old.turn ≡ office.now }
-    ensures { desk.new.turn ≡ desk.old.turn }
-{
-    let refused = called(rt, office, desk, asked).err();
-    same(rt, refused, Some(Refused::Full));
-}
-
-// Fails unless each call of a desk is refused because the book is full.
-fn are_refused<R: Wait + Abort>(rt: &R, office: &Office, desk: &mut Desk)
-    requires { desk.old.turn ≡ office.now }
-    ensures { desk.new.turn ≡ desk.old.turn }
-{
-    is_refused(rt, office, desk, Asked::Front);
-    is_refused(rt, office, desk, Asked::Book(3, 1));
-    is_refused(rt, office, desk, Asked::Cancel(1));
-    is_refused(rt, office, desk, Asked::Ask(3));
-    is_refused(rt, office, desk, Asked::When(1));
-    is_refused(rt, office, desk, Asked::Snapshot);
-}
-
-#[test]
-fn a_full_book_refuses_every_call(rt: HostRuntime) {
-    let Pair {
-        office,
-        first,
-        mut second,
-    } = Pair::open(&rt, rt.alloc());
-    let mut first = after_fronts(&rt, &office, first, 999_999);
-    let last = answer(&rt, &office, &mut first, Asked::Front);
-    same(&rt, last, (1_000_000, ("front", 1_000_000)));
-    are_refused(&rt, &office, &mut first);
-    are_refused(&rt, &office, &mut second);
-    let met = office.meet(&rt, &mut second, &mut first).err();
-    same(&rt, met, Some(Refused::Full));
-    drop((office, first, second));
 }
 
 // The desk, after it booked 25 pieces in the third call on the book.
@@ -339,18 +257,12 @@ fn after_four_calls<R: Threads + Wait + Sync + Abort>(rt: &R, alloc: Global) -> 
 }
 
 #[test]
-fn a_closed_office_has_every_call_once(rt: HostRuntime) {
-    let pair = after_four_calls(&rt, rt.alloc());
-    let history = pair.close(&rt, rt.alloc());
-    same(&rt, history.entries().len(), 4);
-    drop(history);
-}
-
-#[test]
-fn a_desk_that_meets_another_makes_an_entry(rt: HostRuntime) {
+fn a_desk_meets_another_and_a_closed_office_has_every_call_once(rt: HostRuntime) {
     let mut pair = after_four_calls(&rt, rt.alloc());
     same(&rt, pair.meet(&rt), (5, ("front", 5)));
-    drop(pair);
+    let history = pair.close(&rt, rt.alloc());
+    same(&rt, history.entries().len(), 5);
+    drop(history);
 }
 
 // How far a run and a desk have come: the run's first item is held at its gate until the desk has booked.

@@ -1,24 +1,11 @@
 //! Supplies, and what is available to promise.
 
 use super::{made, pieces, same};
-use jiff::civil::Date;
 use mrp_bill::Shop;
-use mrp_cal::Calendar;
 use mrp_master::{AtpRow, Line, LineFault, Nodes, Spot, Supply, Wish, available_in, earliest_in};
-use sample_shops::{Records, bicycles, no_records};
+use sample_shops::bicycles;
 use std::alloc::Global;
 use std::process::Abort;
-
-// The stock on hand of bicycles, frames and wheels; the table's order is not that of the items.
-const ALL_ITEMS: &str = "WHEEL,30\nBIKE,10\nFRAME,12\n";
-
-// The records of the bicycles with this stock.
-fn with_stock(stock: &str) -> Records<'_> {
-    Records {
-        stock,
-        ..bicycles()
-    }
-}
 
 // An item, a week and a quantity, and why they are not a line.
 const LINES: &[(usize, u16, u64, Option<LineFault>)] = &[
@@ -106,69 +93,13 @@ fn lines_spots_and_wishes_are_what_they_were_made_of_or_their_first_fault(rt: Ho
     drop(shop);
 }
 
-// The supply of a shop of these records.
-fn supply_of(rt: &impl Abort, alloc: Global, records: Records<'_>) -> Supply {
-    let shop = made(rt, records.shop(alloc));
-    let supply = Supply::of(alloc, &shop);
-    drop(shop);
-    supply.expect(rt, "memory")
-}
-
-// The pieces of an item supplied up to a week.
-fn up_to(rt: &impl Abort, supply: &Supply, item: usize, week: u16) -> u64 {
-    assert!(rt; 1 <= week && week <= supply.weeks());
-    supply.up_to(item, week).value()
-}
-
-// Fails unless these are the pieces of an item supplied up to each week.
-fn is_supplied(rt: &impl Abort, supply: &Supply, item: usize, by_week: &[u64; 6]) {
-    same(rt, supply.weeks(), 6);
-    for week in 1..7 {
-        let want = by_week[usize::from(week) - 1];
-        same(rt, up_to(rt, supply, item, week), want);
-    }
-}
-
-// Which of four items are master items.
-fn masters(supply: &Supply) -> [bool; 4] {
-    [
-        supply.is_master(0),
-        supply.is_master(1),
-        supply.is_master(2),
-        supply.is_master(3),
-    ]
-}
-
-#[test]
-fn firm_rows_are_supply_from_their_weeks_on(rt: HostRuntime) {
-    let supply = supply_of(&rt, rt.alloc(), bicycles());
-    is_supplied(&rt, &supply, 0, &[10, 10, 30, 30, 50, 50]);
-    is_supplied(&rt, &supply, 1, &[0; 6]);
-    is_supplied(&rt, &supply, 3, &[0; 6]);
-    same(&rt, masters(&supply), [true, false, false, false]);
-    drop(supply);
-}
-
-#[test]
-fn what_is_on_hand_is_supply_of_its_item(rt: HostRuntime) {
-    let supply = supply_of(&rt, rt.alloc(), with_stock(ALL_ITEMS));
-    is_supplied(&rt, &supply, 0, &[10, 10, 30, 30, 50, 50]);
-    is_supplied(&rt, &supply, 1, &[12; 6]);
-    is_supplied(&rt, &supply, 2, &[30; 6]);
-    drop(supply);
-}
-
-// The row of an item of a shop of these records.
-fn row_of(rt: &impl Abort, alloc: Global, records: Records<'_>, item: usize) -> AtpRow {
-    let supply = supply_of(rt, alloc, records);
-    let row = AtpRow::of(alloc, &supply, item);
-    drop(supply);
-    row.expect(rt, "memory")
-}
-
 // The row of bicycles.
 fn bike_row(rt: &impl Abort, alloc: Global) -> AtpRow {
-    row_of(rt, alloc, bicycles(), 0)
+    let shop = made(rt, bicycles().shop(alloc));
+    let supply = Supply::of(alloc, &shop).expect(rt, "memory");
+    let row = AtpRow::of(alloc, &supply, 0);
+    drop((shop, supply));
+    row.expect(rt, "memory")
 }
 
 // The pieces in a week's bucket, available and booked.
@@ -225,29 +156,6 @@ fn give(rt: &impl Abort, row: &mut AtpRow, week: u16, count: u64) {
 }
 
 #[test]
-fn each_supply_opens_a_bucket(rt: HostRuntime) {
-    let row = bike_row(&rt, rt.alloc());
-    is_row(
-        &rt,
-        &row,
-        &[10, 0, 20, 0, 20, 0],
-        &[10, 10, 30, 30, 50, 50],
-        &[0; 6],
-    );
-    are_earliest(
-        &rt,
-        &row,
-        &[
-            (0, Some(1)),
-            (10, Some(1)),
-            (11, Some(3)),
-            (50, Some(5)),
-            (51, None),
-        ],
-    );
-}
-
-#[test]
 fn an_overdraft_is_carried_back(rt: HostRuntime) {
     let mut row = bike_row(&rt, rt.alloc());
     take(&rt, &mut row, 3, 12);
@@ -272,96 +180,6 @@ fn an_overdraft_is_carried_back(rt: HostRuntime) {
     are_earliest(&rt, &row, &[(28, Some(5)), (29, None)]);
 }
 
-#[test]
-fn a_bucket_may_be_overdrawn_into_all_before_it(rt: HostRuntime) {
-    let mut row = bike_row(&rt, rt.alloc());
-    take(&rt, &mut row, 6, 45);
-    is_row(
-        &rt,
-        &row,
-        &[5, 0, 0, 0, 0, 0],
-        &[5; 6],
-        &[0, 0, 0, 0, 0, 45],
-    );
-    take(&rt, &mut row, 2, 5);
-    is_row(&rt, &row, &[0; 6], &[0; 6], &[0, 5, 0, 0, 0, 45]);
-    are_earliest(&rt, &row, &[(0, Some(1)), (1, None)]);
-}
-
-#[test]
-fn a_part_has_its_stock_in_week_one(rt: HostRuntime) {
-    let wheels = row_of(&rt, rt.alloc(), with_stock(ALL_ITEMS), 2);
-    is_row(&rt, &wheels, &[30, 0, 0, 0, 0, 0], &[30; 6], &[0; 6]);
-    let none = row_of(&rt, rt.alloc(), with_stock(ALL_ITEMS), 3);
-    is_row(&rt, &none, &[0; 6], &[0; 6], &[0; 6]);
-    drop((wheels, none));
-}
-
-const LONGEST: &str = "start,2025-01-06\nweeks,104\nworkdays,1111100\n";
-
-// Adds a firm row of one BIKE on this day.
-fn add_row(rt: &impl Abort, alloc: Global, rows: &mut String, monday: Date) {
-    let row = format!(in alloc; "BIKE,firm,{monday},1\n").expect(rt, "memory");
-    rows.push_str(&row).expect(rt, "memory");
-}
-
-// A firm row of one BIKE in each week of a calendar.
-fn rows_of(rt: &impl Abort, alloc: Global, calendar: &Calendar) -> String {
-    let mut rows = String::new(alloc);
-    for week in 1..=calendar.weeks() {
-        add_row(rt, alloc, &mut rows, calendar.first_day(week));
-    }
-    rows
-}
-
-// A firm row of one BIKE in each week of the longest horizon.
-fn a_bike_a_week(rt: &impl Abort, alloc: Global) -> String {
-    let shop = Records {
-        calendar: LONGEST,
-        ..no_records()
-    };
-    let tables = made(rt, shop.tables(alloc));
-    let rows = rows_of(rt, alloc, tables.calendar());
-    drop(tables);
-    rows
-}
-
-// The row of a BIKE a week.
-fn long_row(rt: &impl Abort, alloc: Global) -> AtpRow {
-    let rows = a_bike_a_week(rt, alloc);
-    let shop = Records {
-        calendar: LONGEST,
-        items: "BIKE,master,1,0,lfl,0,0\n",
-        master: &rows,
-        ..no_records()
-    };
-    row_of(rt, alloc, shop, 0)
-}
-
-// Fails unless one piece is in each week's bucket, and nothing is booked.
-fn is_full(rt: &impl Abort, row: &AtpRow) {
-    for week in 1..105 {
-        same(rt, week_of(rt, row, week), (1, u64::from(week), 0));
-    }
-}
-
-// Fails unless nothing is left in any week's bucket.
-fn is_empty(rt: &impl Abort, row: &AtpRow) {
-    for week in 1..105 {
-        let (bucket, available, _) = week_of(rt, row, week);
-        same(rt, (bucket, available), (0, 0));
-    }
-}
-
-#[test]
-fn a_horizon_may_be_full_of_buckets(rt: HostRuntime) {
-    let mut row = long_row(&rt, rt.alloc());
-    is_full(&rt, &row);
-    are_earliest(&rt, &row, &[(104, Some(104)), (105, None)]);
-    take(&rt, &mut row, 104, 104);
-    is_empty(&rt, &row);
-}
-
 // What is available in a week by the nodes of a row's tree; fails unless few are read.
 fn available_by_nodes(rt: &impl Abort, row: &AtpRow, week: u16) -> u64 {
     assert!(rt; 1 <= week && week <= row.weeks());
@@ -379,29 +197,36 @@ fn earliest_by_nodes(rt: &impl Abort, row: &AtpRow, count: u64) -> Option<u16> {
     week
 }
 
-// Fails unless as much is available in each week by a row's tree as by the row.
-fn are_as_available(rt: &impl Abort, row: &AtpRow) {
-    for week in 1..105 {
-        let (_, want, _) = week_of(rt, row, week);
-        same(rt, available_by_nodes(rt, row, week), want);
+// Fails unless these are available in six weeks by a row's tree, and these are the first weeks.
+fn is_told_by_nodes(
+    rt: &impl Abort,
+    row: &AtpRow,
+    available: &[u64; 6],
+    wishes: &[(u64, Option<u16>)],
+) {
+    for place in 0..6 {
+        let told = available_by_nodes(rt, row, place as u16 + 1);
+        same(rt, told, available[place]);
+    }
+    for (count, week) in wishes {
+        same(rt, earliest_by_nodes(rt, row, *count), *week);
     }
 }
 
 #[test]
 fn a_few_nodes_tell_what_is_promised(rt: HostRuntime) {
-    let mut row = long_row(&rt, rt.alloc());
-    same(&rt, available_by_nodes(&rt, &row, 104), 104);
-    same(&rt, earliest_by_nodes(&rt, &row, 0), Some(1));
-    same(&rt, earliest_by_nodes(&rt, &row, 104), Some(104));
-    same(&rt, earliest_by_nodes(&rt, &row, 105), None);
-    are_as_available(&rt, &row);
-    take(&rt, &mut row, 104, 104);
-    are_as_available(&rt, &row);
-    same(&rt, available_by_nodes(&rt, &row, 1), 0);
-    same(&rt, earliest_by_nodes(&rt, &row, 1), None);
-    give(&rt, &mut row, 104, 60);
-    take(&rt, &mut row, 50, 7);
-    are_as_available(&rt, &row);
+    let mut row = bike_row(&rt, rt.alloc());
+    take(&rt, &mut row, 3, 12);
+    take(&rt, &mut row, 5, 25);
+    take(&rt, &mut row, 1, 10);
+    give(&rt, &mut row, 5, 25);
+    is_told_by_nodes(
+        &rt,
+        &row,
+        &[0, 0, 8, 8, 28, 28],
+        &[(0, Some(1)), (8, Some(3)), (28, Some(5)), (29, None)],
+    );
+    drop(row);
 }
 
 // A tree's horizon, and its first and last places.

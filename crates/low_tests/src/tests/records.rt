@@ -1,10 +1,7 @@
 //! The records of any text, and a text's only record.
 
-ghost use Rattle.std.specs.Prelude.{◌≡◌, length};
-
 use super::same;
-use mrp_rows::{Record, Records, Row, Table, only_row};
-use std::alloc::Global;
+use mrp_rows::{Record, Records, Table, only_row};
 use std::process::Abort;
 
 // A byte order mark, a header, an empty line, quotes, and records of one cell and of five.
@@ -39,11 +36,6 @@ fn records_have_their_first_cells(rt: HostRuntime) {
     drop((records, row));
 }
 
-// The only record of a text as one of the script's, with the memory of another.
-fn only(rt: &impl Abort, alloc: Global, text: &[u8], spare: Option<Row>) -> Option<Row> {
-    only_row(alloc, text, Table::Script, 7, spare).expect(rt, "memory")
-}
-
 #[test]
 fn a_line_is_a_row_of_the_script(rt: HostRuntime) {
     const TEXTS: &[(&[u8], bool)] = &[
@@ -58,23 +50,8 @@ fn a_line_is_a_row_of_the_script(rt: HostRuntime) {
         (b"1,run,,,,\n2,run,,,,\n", false),
     ];
     for (text, is_row) in TEXTS {
-        let row = only(&rt, rt.alloc(), text, None);
+        let row = only_row(rt.alloc(), text, Table::Script, 7, None).expect(&rt, "memory");
         same(&rt, row.is_some(), *is_row);
         drop(row);
     }
-}
-
-// Fails unless a row has these as its second and third cells.
-fn has_cells(rt: &impl Abort, row: &Row, want: (&[u8], &[u8])) {
-    assert!(rt; row.cell_count() == 6);
-    same(rt, (row.cell(1), row.cell(2)), want);
-}
-
-#[test]
-fn a_row_reuses_the_memory_of_another(rt: HostRuntime) {
-    let first = only(&rt, rt.alloc(), b"64,\"bo\"\"ok\",A,,,", None).expect(&rt, "a row");
-    has_cells(&rt, &first, (b"bo\"ok", b"A"));
-    let second = only(&rt, rt.alloc(), b"1,run,,,,", Some(first)).expect(&rt, "a row");
-    has_cells(&rt, &second, (b"run", b""));
-    drop(second);
 }

@@ -2,12 +2,9 @@
 
 use super::same;
 use super::told::{counts, fake_reader, fake_writer, has_taken};
-use mrp_rows::devices::{Act, Acts, Fussy, Pieces, Stretch, one_else};
+use mrp_rows::devices::{Act, Acts, Fussy, Pieces, Stretch};
 use mrp_rows::{ReadFault, Told, Tries, WriteFault, read_bundle, read_within, write_text};
-use std::alloc::Global;
-use std::io;
-use std::io::{ErrorKind, Read};
-use std::process::Abort;
+use std::io::ErrorKind;
 
 // Every call is interrupted.
 const INTERRUPTED: Acts<'static> = Acts {
@@ -75,57 +72,6 @@ fn interrupted_writes_are_tried_again_a_million_times(rt: HostRuntime) {
 }
 
 #[test]
-fn a_write_goes_on_after_a_million_interruptions(rt: HostRuntime) {
-    // How often it is interrupted, and what comes of it.
-    const CASES: &[(u64, Result<(), WriteFault>, &[u8])] = &[
-        (1_000_000, Ok(()), b"a"),
-        (1_000_001, Err(WriteFault), b""),
-    ];
-    for (calls, want, taken) in CASES {
-        let stretches = [Stretch(*calls, Act::Interrupts)];
-        let mut writer = fake_writer(rt.alloc(), &stretches);
-        same(&rt, write_text(&mut writer, b"a", &mut Tries::new()), *want);
-        has_taken(&rt, writer, taken);
-    }
-}
-
-#[test]
-fn each_read_that_fails_is_told(rt: HostRuntime) {
-    let usual = Act::Moves(7);
-    for before in 0..15_u64 {
-        let stretches = one_else(before, Act::Fails(ErrorKind::Other), usual);
-        let acts = Acts {
-            stretches: &stretches,
-            after: usual,
-        };
-        let mut reader = Told::new(Pieces::new(&[b'x'; 100], acts));
-        let fault = read_bundle(rt.alloc(), &mut reader).err();
-        same(&rt, fault, Some(ReadFault::Read));
-        same(&rt, counts(&reader), (before.saturating_add(1), 0, 1));
-    }
-}
-
-// A reader's bytes, read as a bundle.
-fn bundle_from<R: Read>(rt: &impl Abort, alloc: Global, reader: &mut Told<R>) -> Vec<u8> {
-    read_bundle(alloc, reader).expect(rt, "a bundle")
-}
-
-#[test]
-fn a_bundle_is_read_to_its_end(rt: HostRuntime) {
-    let mut given = Vec::new(rt.alloc());
-    for n in 0..200_000_u32 {
-        given.push((n % 251) as u8).expect(&rt, "memory");
-    }
-    let mut reader = Told::new(given.as_slice());
-    let bytes = bundle_from(&rt, rt.alloc(), &mut reader);
-    same(&rt, bytes.as_slice(), given.as_slice());
-    same(&rt, reader.into_inner().len(), 0);
-    let mut empty = Told::new(b"".as_slice());
-    same(&rt, bundle_from(&rt, rt.alloc(), &mut empty).len(), 0);
-    drop((given, bytes));
-}
-
-#[test]
 fn a_bundle_is_read_over_short_and_interrupted_reads(rt: HostRuntime) {
     const TURNS: &[Stretch] = &[
         Stretch(1, Act::Moves(1)),
@@ -135,9 +81,10 @@ fn a_bundle_is_read_over_short_and_interrupted_reads(rt: HostRuntime) {
         Stretch(1, Act::Interrupts),
     ];
     let mut reader = fake_reader(TURNS, b"abcdef");
-    let bytes = bundle_from(&rt, rt.alloc(), &mut reader);
+    let bytes = read_bundle(rt.alloc(), &mut reader).expect(&rt, "a bundle");
     same(&rt, bytes.as_slice(), b"abcdef".as_slice());
     same(&rt, counts(&reader), (7, 3, 0));
+    drop(bytes);
 }
 
 #[test]
@@ -151,20 +98,6 @@ fn a_failing_reader_is_told(rt: HostRuntime) {
     let fault = read_bundle(rt.alloc(), &mut reader).err();
     same(&rt, fault, Some(ReadFault::Read));
     same(&rt, counts(&reader), (3, 1, 1));
-}
-
-#[test]
-fn a_bundle_has_at_most_67_108_864_bytes(rt: HostRuntime) {
-    let mut whole = Told::new(io::repeat(b'x').take(67_108_864));
-    same(
-        &rt,
-        bundle_from(&rt, rt.alloc(), &mut whole).len(),
-        67_108_864,
-    );
-    let mut more = Told::new(io::repeat(b'x').take(67_108_865));
-    let fault = read_bundle(rt.alloc(), &mut more).err();
-    same(&rt, fault, Some(ReadFault::Read));
-    same(&rt, more.failures(), 0);
 }
 
 #[test]

@@ -32,21 +32,6 @@ fn makes_1_to_64_seats(rt: HostRuntime) {
     has_seats(&rt, rt.alloc(), 64);
 }
 
-// The state and the log of a new lock with a number of seats, closed at once.
-fn joined(alloc: Global, count: u64) -> Result<(u64, Log<Call, Reply>), TurnFault> {
-    let (turn, seats) = Turn::new(alloc, Tally, 0, 0, count)?;
-    Ok(turn.close(seats))
-}
-
-#[test]
-fn seats_split_and_joined_leave_an_empty_log(rt: HostRuntime) {
-    for count in 1..=64 {
-        let (state, log) = joined(rt.alloc(), count).expect(&rt, "a lock");
-        same(&rt, (state, log.is_empty()), (0, true));
-        drop(log);
-    }
-}
-
 // The answer to a call, its entry's number and the sum; `None` if the sum would be too high.
 fn answer<R: Wait + Abort>(
     rt: &R,
@@ -89,24 +74,14 @@ fn are_answered<R: Wait + Abort>(
 }
 
 #[test]
-fn a_sum_that_is_too_high_leaves_state_and_log(rt: HostRuntime) {
+fn a_sum_may_reach_the_greatest_and_no_more(rt: HostRuntime) {
     const CALLS: &[(Call, Option<(u64, u64)>)] = &[
         (Call::Add(1), Some((1, 1))),
         (Call::Add(MOST), None),
         (Call::Read, Some((2, 1))),
-    ];
-    let (turn, seat, other) = two_seats(&rt, rt.alloc(), 0);
-    drop(other);
-    are_answered(&rt, &turn, seat, CALLS);
-    drop(turn);
-}
-
-#[test]
-fn a_sum_may_reach_the_greatest(rt: HostRuntime) {
-    const CALLS: &[(Call, Option<(u64, u64)>)] = &[
-        (Call::Add(MOST), Some((1, MOST))),
+        (Call::Add(MOST - 1), Some((3, MOST))),
         (Call::Add(u64::MAX), None),
-        (Call::Read, Some((2, MOST))),
+        (Call::Read, Some((4, MOST))),
     ];
     let (turn, seat, other) = two_seats(&rt, rt.alloc(), 3);
     drop(other);

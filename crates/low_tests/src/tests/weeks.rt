@@ -29,59 +29,32 @@ pub fn of_one_length(rt: &impl Abort, left: &Weeks<Qty>, right: &Weeks<Qty>)
     assert!(rt; left.weeks() == right.weeks());
 }
 
-// The result of adding pieces in the second of three weeks.
-fn added(rt: &impl Abort, row: &mut Weeks<Qty>, count: u64) -> Option<()> {
-    assert!(rt; row.weeks() == 3);
-    row.add_at(2, pieces(rt, count))
-}
-
-// The pieces of the second of three weeks.
-fn second(rt: &impl Abort, row: &Weeks<Qty>) -> u64 {
-    assert!(rt; row.weeks() == 3);
-    row.at(2).value()
+// Fails unless a row has these sums, and these greatest pieces so far.
+fn grows(rt: &impl Abort, alloc: Global, row: &Weeks<Qty>, sums: &[u64], greatest: &[u64]) {
+    let summed = row.cumulative(alloc).expect(rt, "sums");
+    has_row(rt, alloc, &summed, sums);
+    let most = row.prefix_max(alloc).expect(rt, "memory");
+    has_row(rt, alloc, &most, greatest);
+    drop((summed, most));
 }
 
 #[test]
-fn sums_grow_week_by_week(rt: HostRuntime) {
-    let row = row_of(&rt, rt.alloc(), &[10, 8, 12, 6, 25, 0]);
-    let sums = row.cumulative(rt.alloc()).expect(&rt, "sums");
-    has_row(&rt, rt.alloc(), &sums, &[10, 18, 30, 36, 61, 61]);
-}
-
-#[test]
-fn greatest_quantities_grow_week_by_week(rt: HostRuntime) {
-    let row = row_of(&rt, rt.alloc(), &[1, 21, 6, 29, 29, 29]);
-    let greatest = row.prefix_max(rt.alloc()).expect(&rt, "memory");
-    has_row(&rt, rt.alloc(), &greatest, &[1, 21, 21, 29, 29, 29]);
-}
-
-#[test]
-fn a_sum_past_the_greatest_quantity_is_not_added(rt: HostRuntime) {
-    let mut row = row_of(&rt, rt.alloc(), &[7, 1, 7]);
-    same(&rt, added(&rt, &mut row, MOST), None);
-    has_row(&rt, rt.alloc(), &row, &[7, 1, 7]);
-}
-
-#[test]
-fn a_quantity_is_added_in_one_week(rt: HostRuntime) {
-    let mut row = Weeks::zero(rt.alloc(), 3).expect(&rt, "memory");
-    for sum in [5, 10] {
-        same(&rt, added(&rt, &mut row, 5), Some(()));
-        same(&rt, second(&rt, &row), sum);
+fn sums_and_greatest_quantities_grow_week_by_week(rt: HostRuntime) {
+    const ROWS: [([u64; 3], [u64; 3], [u64; 3]); 2] = [
+        ([10, 8, 12], [10, 18, 30], [10, 10, 12]),
+        ([MOST - 1, 1, 0], [MOST - 1, MOST, MOST], [MOST - 1; 3]),
+    ];
+    for (counts, sums, greatest) in ROWS {
+        let row = row_of(&rt, rt.alloc(), &counts);
+        grows(&rt, rt.alloc(), &row, &sums, &greatest);
+        drop(row);
     }
-    let row = Weeks::from_vec(row.into_vec());
-    has_row(&rt, rt.alloc(), &row, &[0, 10, 0]);
 }
 
 #[test]
-fn sums_reach_the_greatest_quantity_and_no_more(rt: HostRuntime) {
-    let reached = row_of(&rt, rt.alloc(), &[MOST - 1, 1]);
-    let sums = reached.cumulative(rt.alloc()).expect(&rt, "sums");
-    has_row(&rt, rt.alloc(), &sums, &[MOST - 1, MOST]);
-    let passed = row_of(&rt, rt.alloc(), &[MOST - 1, 1, 1]);
-    same(
-        &rt,
-        passed.cumulative(rt.alloc()).err(),
-        Some(PhaseFault::TooLarge),
-    );
+fn a_sum_past_the_greatest_quantity_is_too_large(rt: HostRuntime) {
+    let row = row_of(&rt, rt.alloc(), &[MOST - 1, 1, 1]);
+    let sums = row.cumulative(rt.alloc()).err();
+    same(&rt, sums, Some(PhaseFault::TooLarge));
+    drop(row);
 }

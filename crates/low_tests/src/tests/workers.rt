@@ -12,7 +12,7 @@ use mrp_board::{Board, BoardCall, BoardReply};
 use mrp_explode::{Gate, OpenGate, Worker, explode, work, work_together};
 use mrp_item::Inputs;
 use mrp_turn::{Log, Turn};
-use sample_shops::{Records, bicycles, bicycles_in_lots, morning, no_records};
+use sample_shops::{Records, bicycles, no_records};
 use std::alloc::Global;
 use std::process::Abort;
 use std::sync::atomic::{AtomicU64, Ordering};
@@ -142,50 +142,6 @@ fn all_come<R: Alloc + Abort + Threads + Wait + Sync>(
 fn workers_plan_at_the_same_time(rt: HostRuntime) {
     all_come(&rt, rt.alloc(), TWO, 2);
     all_come(&rt, rt.alloc(), EIGHT, 8);
-}
-
-// A gate that counts how often items pass it: the first in units, the second in thousands, the third in millions.
-#[derive(Drop)]
-struct Counts {
-    passed: AtomicU64,
-}
-
-impl Gate for Counts {
-    fn pass<R: Wait>(&self, _rt: &R, item: usize) {
-        let unit = match item {
-            0 => 1,
-            1 => 1_000,
-            2 => 1_000_000,
-            _ => 1_000_000_000,
-        };
-        let _before = self.passed.fetch_add(unit, Ordering::SeqCst);
-    }
-}
-
-// Fails unless each of three items passes the gate once, by so many workers.
-fn pass_once<R: Alloc + Abort + Threads + Wait + Sync>(
-    rt: &R,
-    alloc: Global,
-    inputs: &Arc<Inputs>,
-    workers: usize,
-)
-    requires { IsInRange 1 MOST_WORKERS workers }
-{
-    let gate = Counts {
-        passed: AtomicU64::new(0),
-    };
-    let plan = explode(rt, alloc, inputs, workers, &gate).expect(rt, "a plan");
-    same(rt, gate.passed.load(Ordering::SeqCst), 1_001_001);
-    drop(plan);
-}
-
-#[test]
-fn each_item_passes_the_gate_once(rt: HostRuntime) {
-    let inputs = made(&rt, bicycles_in_lots().inputs(rt.alloc(), morning()));
-    pass_once(&rt, rt.alloc(), &inputs, 1);
-    pass_once(&rt, rt.alloc(), &inputs, 2);
-    pass_once(&rt, rt.alloc(), &inputs, 8);
-    drop(inputs);
 }
 
 // Fails unless so many workers leave a log of so many entries, and an outcome of each of three items.

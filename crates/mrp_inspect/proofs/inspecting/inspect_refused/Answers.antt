@@ -1,5 +1,5 @@
 use Rattle.std.proofs.Common.{ℕ, List, Option, subst}
-use Rattle.std.specs.Prelude.{Err, string_bytes}
+use Rattle.std.specs.Prelude.{Err, flat_map, string_bytes}
 use Rattle.mrp_rows.specs.declared.fault.Fault.{Fault}
 use Rattle.mrp_script.specs.Opened.{Opens}
 use Rattle.mrp_script.specs.declared.fault.OpenFault.{OpenFault}
@@ -16,4 +16,4 @@ pub returns-in_ok-told-in-Refused : goal.returns-in_ok-told-in-Refused
 returns-in_ok-told-in-Refused g c = λ bundle sources opens surveys.
     let fault = c.in-Refused.fault in
     let refuses : Opens bundle (Err (Refused fault)) = subst (λ (e : OpenFault). Opens bundle (Err e)) c.in-Refused.is opens in
-    tells-faults bundle c.args.found.now sources fault (string_bytes c.in_ok-told-in-Refused.told) refuses (c.in_ok-told-in-Refused.ensures sources surveys)
+    tells-faults bundle c.args.found.now sources fault (flat_map string_bytes c.in_ok-told-in-Refused.told.items) refuses (c.in_ok-told-in-Refused.ensures sources surveys)

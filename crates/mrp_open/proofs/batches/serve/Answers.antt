@@ -67,3 +67,8 @@ pub returns-in-Some-serve_batch-clause-write : goal.returns-in-Some-serve_batch-
 returns-in-Some-serve_batch-clause-write g c is =
     settle-since (g.S.Store.failures c.args.journal.now) (g.S.Store.failures c.loop.journal) (g.S.Store.failures c.serve_batch.new.journal) c.args.output.now c.loop.output c.serve_batch.new.output
     c.loop.invariant.sound c.loop.invariant.failures (c.in-Some-serve_batch.ensures.write (ap (λ (e : Ending). Some e) is))
+
+pub returns-in-Some-serve_batch-clause-memory : goal.returns-in-Some-serve_batch-clause-memory
+returns-in-Some-serve_batch-clause-memory g c is =
+    let same = c.in-Some-serve_batch.ensures.memory (ap (λ (e : Ending). Some e) is) in
+    (same.0 ∙ c.loop.invariant.sound, same.1 ∙ c.loop.invariant.failures)

@@ -26,6 +26,12 @@ returns-in-Ok-true-clause-advances g c =
     batch c.settle_batch.result c.args.intake.now c.next_batch.new.self c.batch.result.now (g.R.Read.remaining (inner_of c.args.input.now)) (g.R.Read.remaining (inner_of c.next_batch.new.reader)) old new
     (g.T.RunTaker.told c.args.taker.now) (g.T.RunTaker.told c.settle_batch.new.taker) c.batch.ensures c.in-Ok-true.ensures.brings c.settle_batch.ensures.settles
 
+pub returns-in-Ok-true-clause-one : goal.returns-in-Ok-true-clause-one
+returns-in-Ok-true-clause-one g c settled =
+    let is = c.in-Ok-true.is in
+    let test = c.in-Ok-true.field-0-test in
+    c.next_batch.ensures.one (cc)
+
 pub returns-in-Ok-false-clause-advances : goal.returns-in-Ok-false-clause-advances
 returns-in-Ok-false-clause-advances g c =
     let old : Stand = record { desk = c.args.desk.now; journal = g.S.Store.held c.args.journal.now; output = g.W.Write.contents (inner_of c.args.output.now) } in

@@ -1,4 +1,4 @@
-use Rattle.std.proofs.Common.{◌≡◌, ◌∙◌, ◌⊎◌, ℕ, List, None, ap, length, subst, sym}
+use Rattle.std.proofs.Common.{◌≡◌, ◌∙◌, ◌⊎◌, ℕ, List, None, Err, ap, length, subst, sym}
 use Rattle.std.specs.Prelude.{string_bytes}
 use Rattle.mrp_turn.specs.declared.log.Entry.{Entry}
 use Rattle.mrp_book.specs.declared.call.Call.{Call}
@@ -7,7 +7,8 @@ use Rattle.mrp_script.specs.Script.{script_of}
 use Rattle.mrp_open.specs.Ends.{FailsToBegin}
 use Rattle.mrp_words.specs.Folder.{IsAt}
 use Rattle.mrp_open.specs.Start.{HasOtherSum, sum_path}
-use Rattle.mrp_open.proofs.Ended.{other-sum, passed-on}
+use Rattle.mrp_open.specs.Opening.{FailsToWrite}
+use Rattle.mrp_open.proofs.Ended.{fails-to-write, other-sum, passed-on, unwritten}
 use Rattle.mrp_open.proofs.Starting.{as-many}
 use Rattle.mrp_open.proofs.beside.begin.Goals as goal
 
@@ -20,7 +21,20 @@ returns-in_err-sealed-clause-unbegun g c =
     let records : ℕ = length c.entries-records.result.now in
     let count : records ≡ length (script_of tables) = ap (length {A = Entry Call Reply}) c.entries-records.ensures.entries ∙ as-many c.in_ok-desk.desk.entries tables c.in_ok-desk.ensures.answers.asked_are in
     let other : HasOtherSum known c.args.folder.now records (string_bytes found.sum) end = subst (λ (s : List ℕ). HasOtherSum known c.args.folder.now records s end) c.deref.ensures c.in_err-sealed.ensures.other in
-    passed-on c.from_residual-in_err-sealed.result end (FailsToBegin known c.args.folder.now found tables) c.from_residual-in_err-sealed.ensures.1 (other-sum known c.args.folder.now found tables records end c.in_ok-desk.ensures.takes count other)
+    let failed = FailsToWrite g.P.Journal.Store.failures (g.P.JournalPlace.opening c.args.place.now) (g.P.JournalPlace.opening c.args.place.now) in
+    passed-on c.from_residual-in_err-sealed.result end (FailsToBegin known c.args.folder.now found tables failed) c.from_residual-in_err-sealed.ensures.1 (other-sum known c.args.folder.now found tables failed records end c.in_ok-desk.ensures.takes count other)
+
+pub returns-in_err-journal-clause-unbegun : goal.returns-in_err-journal-clause-unbegun
+returns-in_err-journal-clause-unbegun g c =
+    let known = g.F.FileStore.known c.args.files.now in
+    let found = c.args.prepared.now.found in
+    let tables = c.args.prepared.now.rows.value.tables in
+    let end = c.in_err-journal.field-0.0 in
+    let old = g.P.JournalPlace.opening c.args.place.now in
+    let new = g.P.JournalPlace.opening c.begin_journal.new.place in
+    let failed = FailsToWrite g.P.Journal.Store.failures old new in
+    passed-on c.from_residual-in_err-journal.result end (FailsToBegin known c.args.folder.now found tables failed) c.from_residual-in_err-journal.ensures.1
+    (unwritten known c.args.folder.now found tables failed end c.in_ok-desk.ensures.takes c.in_err-journal.ensures.end (λ is. fails-to-write g.P.Journal.Store.failures old new (c.in_err-journal.ensures.write (ap Err is))))
 
 pub returns-clause-unsealed : goal.returns-clause-unsealed
 returns-clause-unsealed g c is =

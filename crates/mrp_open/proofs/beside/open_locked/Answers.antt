@@ -14,8 +14,8 @@ returns-in_err-prepared-clause-unbegun g c =
     let known = g.F.FileStore.known c.args.files.now in
     let opened = opening_of c.args.place.now in
     let end = c.in_err-prepared.field-0.0 in
-    passed-on c.from_residual.result end (FailsWithLock opened known c.args.folder.now) c.from_residual.ensures.1
-    (not-opened known c.args.folder.now opened end c.requires.held c.in_err-prepared.ensures.unopened)
+    passed-on c.from_residual.result end (FailsWithLock opened opened known c.args.folder.now) c.from_residual.ensures.1
+    (not-opened known c.args.folder.now opened opened end c.requires.held c.in_err-prepared.ensures.unopened)
 
 pub returns-in_err-prepared-clause-untouched : goal.returns-in_err-prepared-clause-untouched
 returns-in_err-prepared-clause-untouched g c =
@@ -26,10 +26,11 @@ pub returns-in_err-begun-clause-unbegun : goal.returns-in_err-begun-clause-unbeg
 returns-in_err-begun-clause-unbegun g c =
     let known = g.F.FileStore.known c.args.files.now in
     let prepared = c.in_ok-prepared.prepared in
+    let before = opening_of c.args.place.now in
     let opened = opening_of c.begin.new.place in
     let end = c.in_err-begun.field-0.0 in
-    passed-on c.from_residual-in_err-begun.result end (FailsWithLock opened known c.args.folder.now) c.from_residual-in_err-begun.ensures.1
-    (not-begun known c.args.folder.now opened prepared.found prepared.rows.value.tables end (c.begin.ensures.held ∙ c.requires.held) c.in_ok-prepared.ensures.prepared c.in_err-begun.ensures.unbegun)
+    passed-on c.from_residual-in_err-begun.result end (FailsWithLock before opened known c.args.folder.now) c.from_residual-in_err-begun.ensures.1
+    (not-begun known c.args.folder.now before opened prepared.found prepared.rows.value.tables end (c.begin.ensures.held ∙ c.requires.held) c.in_ok-prepared.ensures.prepared c.in_err-begun.ensures.unbegun)
 
 pub returns-in_err-begun-clause-untouched : goal.returns-in_err-begun-clause-untouched
 returns-in_err-begun-clause-untouched g c =
@@ -50,7 +51,7 @@ returns-clause-served g c =
     c.in_ok-prepared.ensures.prepared c.in_ok-begun.ensures.takes c.in_ok-begun.ensures.desk c.in_ok-begun.ensures.unchanged c.in_ok-begun.ensures.cut serves c.serve_beside.ensures.told c.serve_beside.ensures.read
 
 pub returns-clause-unbegun : goal.returns-clause-unbegun
-returns-clause-unbegun g c = no-memory (g.F.FileStore.known c.args.files.now) c.args.folder.now (opening_of c.begin.new.place) c.serve_beside.result (c.begin.ensures.held ∙ c.requires.held) c.serve_beside.ensures.memory
+returns-clause-unbegun g c = no-memory (g.F.FileStore.known c.args.files.now) c.args.folder.now (opening_of c.args.place.now) (opening_of c.begin.new.place) c.serve_beside.result (c.begin.ensures.held ∙ c.requires.held) c.serve_beside.ensures.memory
 
 pub returns-clause-untouched : goal.returns-clause-untouched
 returns-clause-untouched g c = no-memory-touching (opening_of c.args.place.now) (opening_of c.begin.new.place) c.serve_beside.result c.serve_beside.ensures.memory

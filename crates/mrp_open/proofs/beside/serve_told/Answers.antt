@@ -17,13 +17,9 @@ returns-clause-served g c =
     let new : Stand = record { desk = c.serve-end.new.desk; journal = g.S.Store.held c.serve-end.new.journal; output = g.W.Write.contents (inner_of c.serve-end.new.output) } in
     let handed = g.T.RunTaker.told c.hand_over_missing.new.taker in (
       handed,
-      subst (λ (h : History). HandsAllMissing (g.F.FileStore.known c.args.files.now) c.args.folder.now h (g.T.RunTaker.told c.args.taker.now) handed) c.entries.ensures.entries c.hand_over_missing.ensures,
+      subst (λ (h : History). HandsAllMissing (g.F.FileStore.known c.args.files.now) c.args.folder.now h (g.T.RunTaker.told c.args.taker.now) handed) c.entries.ensures.entries c.hand_over_missing.ensures.told,
       subst (λ (told : Option (List ℕ)). Serves (g.I.Read.remaining (inner_of c.args.input.now)) old new handed told c.serve-end.result) (sym c.close.ensures.told) c.serve-end.ensures.served,
     )
 
 pub returns-clause-told : goal.returns-clause-told
-returns-clause-told g c = record {
-  between = c.tell_cut.new.errors;
-  first = c.tell_cut.ensures;
-  second = is-told g.E.Write.contents c.tell_cut.new.errors c.tell.new.errors (words_of c.serve-end.result) c.tell.result c.tell.ensures.whole c.tell.ensures.front c.tell.ensures.gave_up;
-}
+returns-clause-told g c = is-told g.E.Write.contents c.args.errors.now c.tell.new.errors (words_of c.serve-end.result) c.tell.result c.tell.ensures.whole c.tell.ensures.front c.tell.ensures.gave_up

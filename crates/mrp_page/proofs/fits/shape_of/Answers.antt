@@ -11,7 +11,7 @@ returns c =
       c.known_if-4.ensures,
       c.are_all-ordered.ensures,
       c.are_all-pegged.ensures,
-      c.firm_count.ensures,
+      c.count_with.ensures,
       c.numbers_of-receipts.ensures,
       c.numbers_of-services.ensures,
       c.rows_in-orders.ensures,

@@ -1,11 +1,11 @@
--- Tables of blocks of four bytes.
-use Rattle.std.proofs.Common.{◌≡◌, ◌∙◌, ℕ, zero, suc, ◌+◌, ◌*◌, ◌<◌, ◌≤◌, List, [], ◌∷◌, ◌++◌, length, take, drop, refl, ap, arith, length-append, length-take-le, take-take, take_at}
+-- Tables of blocks of four bytes, and of their lengths.
+use Rattle.std.proofs.Common.{◌≡◌, ◌∙◌, ℕ, zero, suc, ◌+◌, ◌*◌, ◌<◌, ◌≤◌, List, [], ◌∷◌, ◌++◌, length, get_or, take, drop, refl, ap, arith, length-append, length-take-le, take-take, take_at}
 use Rattle.std.proofs.lemmas.List.{take-append-le}
 use Rattle.std.proofs.lemmas.Fmt.{length-decimal-le}
 use Rattle.std.proofs.Math.Seq.{drop-append-add}
 use Rattle.std.specs.Fmt.{decimal, digits}
 use Rattle.mrp_report.specs.page.Groups.{group}
-use Rattle.mrp_report.specs.declared.page.number.TheConstants.{CELLS, GROUPS}
+use Rattle.mrp_report.specs.declared.page.number.TheConstants.{CELLS, GROUPS, LENGTHS}
 
 abbrev blocks : (ℕ → List ℕ) → ℕ → ℕ → List ℕ
 blocks f zero k = []
@@ -70,3 +70,28 @@ group_at n m h le =
     ∙ ap (λ (xs : List ℕ). take 3 (drop (n * 4) xs)) groups_are
     ∙ ap (take 3) here.1
     ∙ ap (λ (k : ℕ). take 3 (group_in_four k ++ here.0)) e
+
+abbrev each : (ℕ → ℕ) → ℕ → ℕ → List ℕ
+each f zero k = []
+each f (suc n) k = f k ∷ each f n (suc k)
+
+each_at : (f : ℕ → ℕ) (n k p : ℕ) → p < n → get_or (each f n k) p 0 ≡ f (k + p)
+each_at f zero k p lt = absurd (omega arith)
+each_at f (suc n) k zero lt =
+    let e : k + 0 ≡ k = omega arith in
+    rw e refl
+each_at f (suc n) k (suc p) lt =
+    let e : k + suc p ≡ suc k + p = omega arith in
+    rw e (each_at f n (suc k) p (omega arith))
+
+abbrev cell_length : ℕ → ℕ
+cell_length k = length (44 ∷ decimal k)
+
+lengths_are : LENGTHS ≡ each cell_length 1000 0
+unfolding digits
+lengths_are = refl
+
+pub length_at : (n : ℕ) → n < 1000 → get_or LENGTHS n 0 ≡ length (44 ∷ decimal n)
+length_at n h =
+    let e : 0 + n ≡ n = omega arith in
+    ap (λ (xs : List ℕ). get_or xs n 0) lengths_are ∙ each_at cell_length 1000 0 n h ∙ ap cell_length e

@@ -1,14 +1,13 @@
 use Rattle.std.proofs.Common.{◌∙◌, ◌≡◌, ◌||◌, Bool, ap, ap₂, rules, false}
 use Rattle.std.proofs.lemmas.Result.{IfOk-weaker}
-use Rattle.clap.specs.Simple.{app_of, app_of_fields, new_app, with_rule}
+use Rattle.clap.specs.Simple.{app_of, new_app, with_rule}
 use Rattle.clap.specs.declared.builder.command.Command.TheViews.{out-Command}
 use Rattle.mrp_words.specs.Words.{word_of, workers_rule}
 use Rattle.mrp_words.proofs.command.day_command.Goals as goal
 
 pub returns-clause-app : goal.returns-clause-app
 returns-clause-app c =
-    let before : app_of c.after_help.result ≡ new_app (word_of c.args.command) =
-    ap app_of_fields c.after_help.ensures ∙ ap app_of_fields c.long_about.ensures ∙ ap app_of_fields c.about.ensures ∙ c.new.ensures.app ∙ ap new_app c.word.ensures in
+    let before : app_of c.explained.result ≡ new_app (word_of c.args.command) = c.explained.ensures.app ∙ ap new_app c.word.ensures in
     let has_workers : app_of c.in_ok-arg.field-0 ≡ with_rule (new_app (word_of c.args.command)) workers_rule =
     c.in_ok-arg.ensures.shape c.workers.ensures.local ∙ ap₂ with_rule before c.workers.ensures.rule in
     IfOk-weaker c.arg-2.result _ _ (λ made h. h.shape c.dir.ensures.local ∙ ap₂ with_rule has_workers c.dir.ensures.rule) c.arg-2.ensures

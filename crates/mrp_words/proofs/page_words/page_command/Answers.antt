@@ -1,14 +1,13 @@
-use Rattle.std.proofs.Common.{◌∙◌, ◌≡◌, ◌||◌, Bool, ap, ap₂, codes, rules, false}
+use Rattle.std.proofs.Common.{◌∙◌, ◌≡◌, ◌||◌, Bool, ap₂, codes, rules, false}
 use Rattle.std.proofs.lemmas.Result.{IfOk-weaker}
-use Rattle.clap.specs.Simple.{app_of, app_of_fields, new_app, with_rule}
+use Rattle.clap.specs.Simple.{app_of, new_app, with_rule}
 use Rattle.clap.specs.declared.builder.command.Command.TheViews.{out-Command}
 use Rattle.mrp_words.specs.Words.{items_rule, run_rule, title_rule}
 use Rattle.mrp_words.proofs.page_words.page_command.Goals as goal
 
 pub returns-clause-app : goal.returns-clause-app
 returns-clause-app c =
-    let before : app_of c.after_help.result ≡ new_app (codes "page") =
-    ap app_of_fields c.after_help.ensures ∙ ap app_of_fields c.long_about.ensures ∙ ap app_of_fields c.about.ensures ∙ c.new.ensures.app in
+    let before : app_of c.explained.result ≡ new_app (codes "page") = c.explained.ensures.app in
     let has_run : app_of c.in_ok-arg.field-0 ≡ with_rule (new_app (codes "page")) run_rule = c.in_ok-arg.ensures.shape c.run.ensures.local ∙ ap₂ with_rule before c.run.ensures.rule in
     let has_items : app_of c.in_ok-arg-2.field-0 ≡ with_rule (with_rule (new_app (codes "page")) run_rule) items_rule =
     c.in_ok-arg-2.ensures.shape c.items.ensures.local ∙ ap₂ with_rule has_run c.items.ensures.rule in

@@ -1,4 +1,4 @@
-use Rattle.std.proofs.Common.{◌∙◌, ◌≡◌, ap, ap₂, rules, Option, Some, None}
+use Rattle.std.proofs.Common.{◌∙◌, ◌≡◌, ap, ap₂, Option, Some, None}
 use Rattle.std.specs.Prelude.{◌-◌, ◌^◌}
 use Rattle.clap.specs.Walk.{Rule, rule_of}
 use Rattle.clap.specs.declared.builder.value_parser.ValueParser.{ValueParser}
@@ -10,6 +10,6 @@ pub returns-clause-rule : goal.returns-clause-rule
 returns-clause-rule c =
     let given = c.value_parser.ensures.given in
     let parser : c.value_parser.result.value_parser ≡ Some (Unsigned 1 (2 ^ 64 - 1)) = given.1 ∙ ap (λ (p : ValueParser). Some p) given.2 in
-    let before : rule_of c.help.result ≡ record run_rule { parser = None } = search rules in
-    let others : rule_of c.value_parser.result ≡ record (rule_of c.help.result) { parser = c.value_parser.result.value_parser } = ap rule_of c.value_parser.ensures.others in
+    let before : rule_of c.valued.result ≡ record run_rule { parser = None } = c.valued.ensures.rule in
+    let others : rule_of c.value_parser.result ≡ record (rule_of c.valued.result) { parser = c.value_parser.result.value_parser } = ap rule_of c.value_parser.ensures.others in
     others ∙ ap₂ (λ (r : Rule) (p : Option ValueParser). record r { parser = p }) before parser

@@ -1,5 +1,0 @@
-use Rattle.std.proofs.Common.{◌≡◌}
-use Rattle.benches.proofs.refusals.books.tell_replies.Given as goal
-
-abbrev pub invariant-loop-asked : goal.invariant-loop-asked
-invariant-loop-asked g l = l.desk.turn ≡ l.initial.desk.turn
