@@ -16,6 +16,8 @@ use Rattle.clap.specs.declared.error.kind.ErrorKind.TheVariants.{DisplayHelp, Di
 use Rattle.mrp_words.specs.declared.command.TheConstants.{MOST_WORKERS}
 use Rattle.mrp_words.specs.declared.command.Request.{Request}
 use Rattle.mrp_words.specs.declared.command.Request.TheVariants.{Carry, Check, Day, Desk, Inspect, Page}
+use Rattle.mrp_words.specs.declared.command.Subcommand.{Subcommand}
+use Rattle.mrp_words.specs.declared.command.Subcommand.TheVariants as subcommand
 use Rattle.mrp_words.specs.declared.day.DayCommand.{DayCommand}
 use Rattle.mrp_words.specs.declared.carry_words.CarryWords.{CarryWords}
 use Rattle.mrp_words.specs.declared.page_words.PageWords.{PageWords}
@@ -118,6 +120,15 @@ inspect_app = with_rule (new_app (codes "inspect")) required_dir_rule
 -- `desk`: its word, and its options
 abbrev pub desk_app : App
 desk_app = with_rule (with_rule (new_app (codes "desk")) workers_rule) required_dir_rule
+
+-- a command of the program
+abbrev pub app_with : Subcommand → App
+app_with (subcommand.Day command) = day_app command
+app_with subcommand.Page = page_app
+app_with subcommand.Check = check_app
+app_with subcommand.Carry = carry_app
+app_with subcommand.Inspect = inspect_app
+app_with subcommand.Desk = desk_app
 
 -- no argument of a command is also one of its subcommands
 abbrev pub HasNoGlobals : Command → Type 0

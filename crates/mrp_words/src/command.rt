@@ -6,7 +6,7 @@ ghost use Rattle.clap.specs.Matches.{first_value, found_of};
 ghost use Rattle.clap.specs.Values.{kind_of};
 ghost use Rattle.clap.specs.Simple.{App, app_of, new_app, on_top, subcommand_rows_of, with_subcommand};
 ghost use Rattle.mrp_words.specs.Help.{help_line, help_text};
-ghost use Rattle.mrp_words.specs.Words.{Asks, Enters, EntersCheckOrDay, EntersUncarried, EntersUninspected, EntersUnpaged, HasFolder, HasNoGlobals, HasWorkers, IsAsAsked, IsBy, IsEntered, IsOfKind, day_app, dir_among, mrp_command};
+ghost use Rattle.mrp_words.specs.Words.{Asks, Enters, EntersCheckOrDay, EntersUncarried, EntersUninspected, EntersUnpaged, HasFolder, HasNoGlobals, HasWorkers, IsAsAsked, IsBy, IsEntered, IsOfKind, app_with, day_app, dir_among, mrp_command};
 
 use crate::carry_words::{CarryWords, carry_command, carry_words};
 use crate::check_words::check_command;
@@ -178,26 +178,54 @@ fn program<'a>(alloc: Global) -> Result<Command<'a>, AllocError>
         .bin_name("mrp")
 }
 
-// Adds a command, if memory was there for both.
-fn with_command<'a>(
-    all: Result<Command<'a>, AllocError>,
-    own: Result<Command<'a>, AllocError>,
-) -> Result<Command<'a>, AllocError>
-    ensures { (stood added : App) → IfOk all.entry (λ c. app_of c ≡ stood) → IfOk own.entry (λ c. app_of c ≡ added) → IfOk own.entry HasNoGlobals → IfOk result (λ c. app_of c ≡ with_subcommand stood added.top) }
+// A command of the program.
+#[derive(Clone, Copy)]
+enum Subcommand {
+    Day(DayCommand),
+    Page,
+    Check,
+    Carry,
+    Inspect,
+    Desk,
+}
+
+// A command, with its options.
+fn own_command<'a>(alloc: Global, which: Subcommand) -> Result<Command<'a>, AllocError>
+    ensures app { IfOk result (λ made. app_of made ≡ app_with which) }
+    ensures local { IfOk result HasNoGlobals }
 {
-    all?.subcommand(own?)
+    match which {
+        Subcommand::Day(command) => day_command(alloc, command),
+        Subcommand::Page => page_command(alloc),
+        Subcommand::Check => check_command(alloc),
+        Subcommand::Carry => carry_command(alloc),
+        Subcommand::Inspect => inspect_command(alloc),
+        Subcommand::Desk => desk_command(alloc),
+    }
+}
+
+// Adds a command. (After a refused allocation nothing more is asked for.)
+fn with_command<'a>(
+    alloc: Global,
+    all: Result<Command<'a>, AllocError>,
+    which: Subcommand,
+) -> Result<Command<'a>, AllocError>
+    ensures { (stood : App) → IfOk all.entry (λ c. app_of c ≡ stood) → IfOk result (λ c. app_of c ≡ with_subcommand stood (app_with which).top) }
+{
+    all?.subcommand(own_command(alloc, which)?)
 }
 
 fn command<'a>(alloc: Global) -> Result<Command<'a>, AllocError>
     ensures { IfOk result (λ command. app_of command ≡ mrp_command) }
 {
-    let all = with_command(program(alloc), day_command(alloc, DayCommand::Plan));
-    let all = with_command(all, day_command(alloc, DayCommand::Live));
-    let all = with_command(all, page_command(alloc));
-    let all = with_command(all, check_command(alloc));
-    let all = with_command(all, carry_command(alloc));
-    let all = with_command(all, inspect_command(alloc));
-    with_command(all, desk_command(alloc))
+    let all = program(alloc);
+    let all = with_command(alloc, all, Subcommand::Day(DayCommand::Plan));
+    let all = with_command(alloc, all, Subcommand::Day(DayCommand::Live));
+    let all = with_command(alloc, all, Subcommand::Page);
+    let all = with_command(alloc, all, Subcommand::Check);
+    let all = with_command(alloc, all, Subcommand::Carry);
+    let all = with_command(alloc, all, Subcommand::Inspect);
+    with_command(alloc, all, Subcommand::Desk)
 }
 
 // Why `clap` gave no matches, with its text.

@@ -13,16 +13,10 @@ returns c =
     let checked : App = with_subcommand drawn check_app.top in
     let carried : App = with_subcommand checked carry_app.top in
     let inspected : App = with_subcommand carried inspect_app.top in
-    c.with_command.ensures inspected desk_app
-    (c.with_command-all-6.ensures carried inspect_app
-    (c.with_command-all-5.ensures checked carry_app
-    (c.with_command-all-4.ensures drawn check_app
-    (c.with_command-all-3.ensures lived page_app
-    (c.with_command-all-2.ensures planned (day_app Live)
-    (c.with_command-all.ensures program (day_app Plan) c.program.ensures c.day_command.ensures.app c.day_command.ensures.local)
-    c.day_command-2.ensures.app c.day_command-2.ensures.local)
-    c.page_command.ensures.app c.page_command.ensures.local)
-    c.check_command.ensures.app c.check_command.ensures.local)
-    c.carry_command.ensures.app c.carry_command.ensures.local)
-    c.inspect_command.ensures.app c.inspect_command.ensures.local)
-    c.desk_command.ensures.app c.desk_command.ensures.local
+    c.with_command.ensures inspected
+    (c.with_command-all-6.ensures carried
+    (c.with_command-all-5.ensures checked
+    (c.with_command-all-4.ensures drawn
+    (c.with_command-all-3.ensures lived
+    (c.with_command-all-2.ensures planned
+    (c.with_command-all.ensures program c.program-all.ensures))))))
