@@ -16,3 +16,4 @@ pub mod OnJournals
 pub mod BundleTexts
 pub mod OnFolders
 pub mod RefusedLines
+pub mod Crashes

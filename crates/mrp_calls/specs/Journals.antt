@@ -1,5 +1,5 @@
 -- The journal as the script's table of a folder's bundle (profile).
-use Rattle.std.specs.Prelude.{ℕ, true, ◌≡◌, ◌≤◌, ◌+◌, List, ◌++◌, [], ◌∷◌, Result, Ok, flat_map, length, map}
+use Rattle.std.specs.Prelude.{ℕ, true, ◌≡◌, ◌≤◌, ◌+◌, List, ◌++◌, [], ◌∷◌, Result, Ok, flat_map, length, map, take}
 use Rattle.std.specs.List.{enumerate_from}
 use Rattle.csv.specs.Reading.{strip_bom}
 use Rattle.mrp_cal.specs.Calendar.{ShopCalendar}
@@ -19,10 +19,13 @@ use Rattle.mrp_master.specs.Supply.{supply_of}
 use Rattle.mrp_book.specs.History.{IsLegal, asked, next_number}
 use Rattle.mrp_book.specs.Standing.{History}
 use Rattle.mrp_report.specs.section.HistoryText.{entry_text, history_text}
+use Rattle.mrp_journal.specs.Journal.{begun}
+use Rattle.mrp_journal.specs.Lines.{whole_lines}
 use Rattle.mrp_journal.specs.Rows.{IsTable}
-use Rattle.mrp_journal.specs.Table.{TakesRecords}
+use Rattle.mrp_journal.specs.Table.{TakesRecords, header_for}
 use Rattle.mrp_script.specs.Opened.{IsAccepted}
 use Rattle.mrp_script.specs.Script.{record_of, with_run}
+use Rattle.mrp_calls.specs.Answers.{Answers}
 use Rattle.mrp_calls.specs.Desk.{Desk}
 use Rattle.mrp_calls.specs.LineCall.{is_whole}
 
@@ -75,3 +78,19 @@ pub record GoesOn (d : Desk) (script : List ScriptRow) (h : History) : Type 0 wh
   pub is : h ≡ d.entries ++ more
   pub added : asked d.entries ++ asked more ≡ with_run (asked d.entries)
   pub text : history_text (with_script d.tables script) h ≡ history_text d.tables d.entries ++ flat_map (entry_text d.tables) (enumerate_from (next_number d.entries) more)
+
+-- a journal as it is begun in a file that has these bytes
+abbrev pub journal_in : List ℕ → List ℕ
+journal_in bytes = begun bytes (header_for (whole_lines bytes))
+
+-- while a desk answered lines, its folder's journal was left so by a crash: it is begun again with the records of the first of these
+-- lines behind it, and the folder opens with a desk that has answered these alone
+pub record IsLeftOpen (lines : List (List ℕ)) (others : List Part) (journal left : List ℕ) (old : Desk) : Type 0 where
+  pub count : ℕ
+  pub few : count ≤ length lines
+  pub answers : List ℕ
+  pub records : List ℕ
+  pub desk : Desk
+  pub first : Answers (take count lines) old answers records desk
+  pub begins : journal_in left ≡ journal ++ records
+  pub opens : AnswersFolder others (journal ++ records) desk

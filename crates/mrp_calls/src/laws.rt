@@ -9,13 +9,14 @@ ghost use Rattle.mrp_tables.specs.declared.limits.TheConstants.{MOST_ROWS};
 ghost use Rattle.mrp_tables.specs.Tables.{Tables};
 ghost use Rattle.mrp_book.specs.Standing.{History};
 ghost use Rattle.mrp_script.specs.Script.{AnswersScript};
+ghost use Rattle.mrp_journal.specs.Held.{IsFront};
 ghost use Rattle.mrp_journal.specs.Rows.{IsTable};
 ghost use Rattle.mrp_calls.specs.declared.texts.TheConstants.{LEAST_ROOM};
 ghost use Rattle.mrp_calls.specs.Answers.{Answers};
 ghost use Rattle.mrp_calls.specs.Batches.{AreAnswered};
 ghost use Rattle.mrp_calls.specs.CallRecord.{IsRecordLine, ReadsBack, record_text};
 ghost use Rattle.mrp_calls.specs.Desk.{Desk};
-ghost use Rattle.mrp_calls.specs.Journals.{AnswersFolder, AnswersJournal, GoesOn, IsOneRecord, script_in, with_script};
+ghost use Rattle.mrp_calls.specs.Journals.{AnswersFolder, AnswersJournal, GoesOn, IsLeftOpen, IsOneRecord, journal_in, script_in, with_script};
 ghost use Rattle.mrp_calls.specs.LineCall.{call_of_line};
 
 use mrp_tables::laws::accepted_tables_are_of_their_texts;
@@ -58,6 +59,17 @@ pub fn folders()
         → AnswersFolder others (journal ++ records) new }
     // The history of its day begins with the desk's entries.
     ensures history { (others : List Part) (journal : List ℕ) (d : Desk) (on : AnswersFolder others journal d) (h : History) → AnswersScript (with_script d.tables on.script) h → GoesOn d on.script h }
+{
+    accepted_tables_are_of_their_texts();
+}
+
+/// A folder with an open desk that a crash has ended while it answered lines.
+pub fn crashes()
+    // What it leaves, the journal and any front of the lines' records, is begun again as the journal with the records of the first
+    // lines, and opens with a desk that has answered these. Lines that were answered earlier have their records.
+    ensures { (earlier lines : List (List ℕ)) (others : List Part) (bytes left : List ℕ) (first old new : Desk) (said written answers records : List ℕ)
+        → AnswersFolder others (journal_in bytes) first → Answers earlier first said written old → Answers lines old answers records new
+        → IsFront (journal_in bytes ++ written) left → IsFront left ((journal_in bytes ++ written) ++ records) → IsLeftOpen lines others (journal_in bytes ++ written) left old }
 {
     accepted_tables_are_of_their_texts();
 }

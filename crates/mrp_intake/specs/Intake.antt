@@ -1,7 +1,9 @@
 -- What an intake holds, and what a batch is (profile).
-use Rattle.std.specs.Prelude.{ℕ, ◌≡◌, ◌≤◌, ◌⊎◌, ◌==◌, false, List, [], ◌∷◌, ◌++◌, length, Option, Some, None, ⊤}
-use Rattle.std.specs.List.{list_any}
+use Rattle.std.specs.Prelude.{ℕ, ◌≡◌, ◌≢◌, ◌≤◌, ◌+◌, ◌⊎◌, ◌==◌, false, List, [], ◌∷◌, ◌++◌, length, Option, Some, None, ⊤}
+use Rattle.std.specs.List.{All, concat, list_any}
 use Rattle.std.specs.Io.KnownBytes.{Consumes, IsAtEnd}
+use Rattle.mrp_rows.specs.declared.told.Told.{Told}
+use Rattle.mrp_rows.specs.Told.{HasRisenBy, calls_of, inner_of, interrupted_of}
 use Rattle.mrp_intake.specs.Lines.{told_lines}
 use Rattle.mrp_intake.specs.declared.intake.TheConstants.{PIECE}
 
@@ -44,3 +46,26 @@ pub record IsOneRead (before after : Option (List ℕ)) : Type 0 where
   pub last : List ℕ
   pub brings : Consumes between after last
   pub within : length last ≤ PIECE
+
+-- a part of a line, as a read gives it
+pub record IsPart (text : List ℕ) : Type 0 where
+  pub some : text ≢ []
+  pub in_line : IsInLine text
+
+-- calls of a reader, of which some were interrupted: each of the others gave a part of a line, but for so many more, which gave this
+pub record Gives {R : Type 0} (remaining : R → Option (List ℕ)) (old new : Told R) (more : ℕ) (last : List ℕ) : Type 0 where
+  pub parts : List (List ℕ)
+  pub are : All IsPart parts
+  pub bytes : Consumes (remaining (inner_of old)) (remaining (inner_of new)) (concat parts ++ last)
+  pub retried : ℕ
+  pub interrupted : HasRisenBy retried (interrupted_of old) (interrupted_of new)
+  pub few : calls_of new ≤ calls_of old + (length parts + retried + more)
+
+-- a reader was read from as long as it gave parts of a line: no call follows one that gave a line feed, or the end
+abbrev pub StopsReading : {R : Type 0} → (R → Option (List ℕ)) → Told R → Told R → Type 0
+StopsReading remaining old new = (last : List ℕ) × Gives remaining old new 1 last
+
+-- a call that was interrupted is tried again
+abbrev pub retries_of : Option ℕ → ℕ
+retries_of None = 1
+retries_of (Some count) = 0

@@ -31,7 +31,7 @@ impl Intake {
     ghost use Rattle.std.specs.Io.KnownBytes.{IsAtEnd};
     ghost use Rattle.mrp_rows.specs.declared.streams.TheConstants.{READ_CALLS};
     ghost use Rattle.mrp_rows.specs.Told.{HasRisenBy, calls_of, failures_of, greatest_count, inner_of, interrupted_of};
-    ghost use Rattle.mrp_intake.specs.Intake.{BringsKnown, IsBatch, IsOneRead};
+    ghost use Rattle.mrp_intake.specs.Intake.{BringsKnown, IsBatch, IsOneRead, StopsReading};
 
     /// An intake of which nothing was read yet.
     pub fn new(alloc: Global) -> Intake
@@ -72,6 +72,7 @@ impl Intake {
         ensures whole { result ≡ Ok true → IsBatch self.new (R.remaining (inner_of reader.new)) }
         ensures some { result ≡ Ok true → self.new.batch ≢ [] }
         ensures one { result ≡ Ok true → IsOneRead (R.remaining (inner_of reader.old)) (R.remaining (inner_of reader.new)) }
+        ensures once { OnOk result (StopsReading R.remaining reader.old reader.new) }
         ensures end { result ≡ Ok false → (self.new.batch ≡ []) × (self.new.begun ≡ []) × IsAtEnd (R.remaining (inner_of reader.new)) }
         ensures failures { OnOk result (failures_of reader.new ≡ failures_of reader.old) }
         ensures refused { result ≡ Err ReadFault.Read → HasRisenBy 1 (failures_of reader.old) (failures_of reader.new)

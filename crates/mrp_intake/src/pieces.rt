@@ -3,7 +3,7 @@
 ghost use Rattle.std.specs.Prelude.{◌≡◌, ◌≢◌, ◌≤◌, ◌<◌, ◌⊎◌, ◌++◌, ℕ, [], List, false, true, IfOk, IfSome, OnErr, OnOk, length, take};
 ghost use Rattle.std.specs.Io.KnownBytes.{Consumes, IsAtEnd, Keeps};
 ghost use Rattle.mrp_rows.specs.Told.{HasRisenBy, calls_of, counted, failures_of, greatest_count, inner_of, interrupted_of};
-ghost use Rattle.mrp_intake.specs.Intake.{IsEnded, IsInLine};
+ghost use Rattle.mrp_intake.specs.Intake.{IsEnded, IsInLine, retries_of};
 ghost use Rattle.mrp_intake.specs.Lines.{told_lines};
 
 use crate::lines::LONGEST_LINE;
@@ -22,6 +22,7 @@ pub(crate) fn read_once<R: Read>(
     ensures failures { OnOk result (failures_of reader.new ≡ failures_of reader.old) }
     ensures given { IfOk result (λ got. IfSome got (λ count. (count ≤ length piece.new)
         × Consumes (R.remaining (inner_of reader.old)) (R.remaining (inner_of reader.new)) (take count piece.new))) }
+    ensures retried { IfOk result (λ got. HasRisenBy (retries_of got) (interrupted_of reader.old) (interrupted_of reader.new)) }
     ensures end { result ≡ Ok (Some 0) → IsAtEnd (R.remaining (inner_of reader.new)) }
     ensures nothing { result ≡ Ok None → Keeps (R.remaining (inner_of reader.old)) (R.remaining (inner_of reader.new)) }
     ensures refused { OnErr result (HasRisenBy 1 (failures_of reader.old) (failures_of reader.new)
