@@ -239,12 +239,13 @@ class Refusals(InAFolder):
         self.assertIn("stock.csv: onhand: 80 more like these\n", err)
 
     def test_heads(self):
-        err = self.refuses(self.lay_shop(stock="item,pieces\nBIKE,10\n"))
-        self.assertIn(
-            "stock.csv: no column is called 'onhand'; its heads are 'item', 'pieces'; names.toml may say which it is\n", err
-        )
-        self.doCleanups()
-        self.setUp()
+        for titles in ("", "Stock of a Monday\n\n"):
+            err = self.refuses(self.lay_shop(stock=f"{titles}item,pieces\nBIKE,10\n"))
+            self.assertIn(
+                "stock.csv: no column is called 'onhand'; its heads are 'item', 'pieces'; names.toml may say which it is\n", err
+            )
+            self.doCleanups()
+            self.setUp()
         err = self.refuses(self.lay_shop(stock="item,onhand,On Hand\nBIKE,10,12\n"))
         self.assertIn("stock.csv: several columns are called 'onhand'; expected one\n", err)
 
