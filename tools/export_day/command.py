@@ -17,6 +17,10 @@ from .tables import Tables
 from .writers import FILES, write_database, write_folder, write_workbook
 
 
+# A folder is hardly meant by a name that ends so.
+OTHER_FILES = (".xls", ".xlsm", ".xlsb", ".ods", ".numbers", ".csv", ".txt")
+
+
 class Unknown(Exception):
     """Whether a database has taken the run can not be told."""
 
@@ -94,8 +98,10 @@ def counts(parts):
 
 def write(given):
     """Writes what is asked for, and says what it was."""
-    tables = Tables(given.dir) if given.dir is not None else None
-    is_database, is_workbook = given.to.endswith(".toml"), given.to.endswith(".xlsx")
+    tables, name = Tables(given.dir) if given.dir is not None else None, given.to.casefold()
+    is_database, is_workbook = name.endswith(".toml"), name.endswith(".xlsx")
+    if name.endswith(OTHER_FILES):
+        raise Refused(f"{given.to}: expected a folder, a workbook .xlsx or a .toml that names a database")
     if is_workbook:
         look_at_file(given.to, given.replace)
     elif not is_database:

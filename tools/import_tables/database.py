@@ -30,14 +30,17 @@ def read_answers(connection, queries):
     for table, query in queries.items():
         try:
             with connection.cursor() as cursor:
-                cursor.execute(query)
-                if cursor.description is None:
-                    raise Refused(f"query {table}: answers no table")
+                cursor.execute(alone(query))
                 heads = [column.name for column in cursor.description]
                 rows = [(number, [value_of(cell) for cell in row]) for number, row in enumerate(cursor, start=1)]
         except (psycopg2.Error, ValueError) as wrong:  # (a text or a date that Python does not have is a ValueError)
             raise Refused(f"query {table}: {first_line(wrong)}") from None
         yield table, Answer(table, [(0, heads), *rows])
+
+
+def alone(query):
+    """A query in brackets, as the database takes one that reads, and no further statement, which could end the snapshot and write."""
+    return f"(\n{query.strip().removesuffix(';')}\n)"
 
 
 def read_database(text, queries):

@@ -57,7 +57,7 @@ def read_file(path, heads):
     separator, text = separator_of(text, heads)
     if separator != ",":
         told.append(f"cells are separated by {SEPARATORS[separator]}")
-    return Sheet(name, rows_of(name, text, separator), told)
+    return Sheet(name, rows_of(name, text, separator), told, separator)
 
 
 def text_of(name, data):

@@ -28,12 +28,14 @@ class Shown:
 class Sheet:
     """A table as it was found: a title, and rows, each with its number and its cells.
 
-    A cell is a text, a number, a date, or None where it is empty. `told` says what was done to read the sheet.
+    A cell is a text, a number, a date, or None where it is empty. `told` says what was done to read the sheet. `separator` stands
+    between the cells of a file.
     """
 
     title: str
     rows: list
     told: list = field(default_factory=list)
+    separator: str = ","
 
     def place(self, row, column):
         """How the cell of a row, by its number, and of a column, from 0, is called."""

@@ -54,10 +54,10 @@ def heads_in(cells):
 
 
 def row_of_heads(table, rows, names):
-    """Which row has the heads: the first of the upper ones that has all of them; where none has, the first."""
+    """Which row has the heads: the first of the upper ones that has all of them; where none has, the first with the most."""
     needed = {plain_title(names.head(table, column)) for column in needed_columns(table, names)}
-    upper = ({plain_title(head) for head in heads_in(cells)} for _, cells in rows[:MOST_ABOVE])
-    return next((place for place, heads in enumerate(upper) if needed <= heads), 0)
+    upper = [{plain_title(head) for head in heads_in(cells)} for _, cells in rows[:MOST_ABOVE]]
+    return max(range(len(upper)), key=lambda place: len(needed & upper[place]))
 
 
 def needed_columns(table, names):

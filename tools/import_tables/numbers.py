@@ -64,11 +64,11 @@ def marks_shown(values):
 class Numbers:
     """Reads the numbers of a column."""
 
-    def __init__(self, values, hints=frozenset(), asked=None):
+    def __init__(self, values, hints=frozenset(), asked=None, separator=","):
         """`hints` has the marks that the table's other columns show; `asked` is the mark that was asked for."""
         self.marks = marks_shown(values)
-        if Mark.POINT not in self.marks and has_plain_ones_beside_commas(values):
-            # (decimals of a fixed count would stand in all cells)
+        if separator == "," and Mark.POINT not in self.marks and has_plain_ones_beside_commas(values):
+            # (decimals of a fixed count would stand in all cells; where a comma is before decimals, spreadsheets write semicolons)
             hints = hints | {Mark.POINT}
         self.hints, self.asked = hints, asked
 

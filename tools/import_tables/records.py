@@ -76,7 +76,7 @@ class Reader:
         return Dates(values, self.options.dates)
 
     def numbers(self, laid, values):
-        return Numbers(values, self.marks[laid.table], self.options.decimal)
+        return Numbers(values, self.marks[laid.table], self.options.decimal, laid.sheet.separator)
 
     def calendar_readers(self, laid, values):
         """What reads each value of the calendar, by its key. The dates are as a column; each number stands for itself."""

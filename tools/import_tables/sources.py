@@ -57,6 +57,7 @@ def source_of(given, names, ledger):
         titled = {sheet.title: sheet for sheet in read_workbook(path)}
         sheets = by_table(titled, lambda title: title, names, ledger)
         return Source("sheet", list(titled), sheets, "names.toml ([tables], with --names) says which it is")
+    os.stat(path)  # (where there is nothing, that is told)
     raise Refused(f"{path}: expected a folder, a workbook .xlsx or a file of queries .toml")
 
 

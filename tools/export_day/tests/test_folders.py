@@ -102,6 +102,11 @@ class Folders(InAFolder):
 
 
 class Refusals(InAFolder):
+    def test_names_of_other_files(self):
+        for name in ("day.xls", "day.ODS", "orders.csv"):
+            with self.subTest(name):
+                self.assertIn("expected a folder, a workbook .xlsx or a .toml", self.refuses(DAY, self.path(name)))
+
     def test_no_days(self):
         day = read(DAY)
         for text, line in (

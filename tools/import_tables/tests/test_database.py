@@ -70,15 +70,37 @@ class Database(InAFolder, WithServer):
                 self.assertIn(line, self.refuses(self.lay_queries(stock=query)))
                 os.remove(self.path("erp.toml"))
 
+    def test_ends_of_queries(self):
+        for end in (";", " ; \n", "-- the stock", "\n-- the stock\n"):
+            with self.subTest(end):
+                stock = f"with own as (select 'BIKE' as item, 5 as onhand) select * from own{end}"
+                _, tables = self.imports(self.lay_queries(stock=stock))
+                self.assertEqual(tables["stock"], b"item,onhand\nBIKE,5\n")
+            self.doCleanups()
+            self.setUp()
+
     def test_queries_that_are_refused(self):
+        self.server.run("create sequence places")
         for query, line in (
             ("select * from nothing", 'query stock: relation "nothing" does not exist\n'),
             ("selec", 'query stock: syntax error at or near "selec"\n'),
             (
-                "delete from stock returning material as item, 1 as onhand",
-                "query stock: cannot execute DELETE in a read-only transaction\n",
+                "select nextval('places')::text as item, 1 as onhand",
+                "query stock: cannot execute nextval() in a read-only transaction\n",
             ),
-            ("set time zone 'UTC'", "query stock: answers no table\n"),
+            (
+                "delete from stock returning material as item, 1 as onhand",
+                'query stock: syntax error at or near "delete"\n',
+            ),
+            (
+                "commit; delete from stock; select 'BIKE' as item, 1 as onhand",
+                'query stock: syntax error at or near "commit"\n',
+            ),
+            (
+                "select 'BIKE' as item, 1 as onhand; commit; delete from stock",
+                'query stock: syntax error at or near ";"\n',
+            ),
+            ("set time zone 'UTC'", 'query stock: syntax error at or near "set"\n'),
             ("select '0044-03-15 BC'::date as item, 1 as onhand", "query stock: "),
             ("select 'BIKE' as item", "stock: no column is called 'onhand'; its heads are 'item'; "),
             (None, "; [queries] has one for each table; where there is none, --empty stock\n"),

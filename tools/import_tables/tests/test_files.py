@@ -33,6 +33,17 @@ class Forms(InAFolder):
         out = self.imports_bicycle(stock=STOCK.replace(",", "\t"))
         self.assertIn("stock.csv: cells are separated by tabs\n", out)
 
+    def test_commas_in_numbers_of_files_without_commas(self):
+        """Beside numbers without a mark too, such a comma may stand before decimals."""
+        great = STOCK.replace(",10", ',"1,000"')
+        self.assertIn(b"BIKE,1000\n", self.imports(self.lay_shop(stock=great))[1]["stock"])
+        for separator in ";\t|":
+            self.doCleanups()
+            self.setUp()
+            with self.subTest(separator):
+                told = self.refuses(self.lay_shop(stock=STOCK.replace(",", separator).replace("10", "1,000")))
+                self.assertIn("stock.csv:2: onhand: '1,000' could be 1000 or 1; expected a number that can be only one", told)
+
     def test_a_line_that_names_the_separator(self):
         for end in ("\n", "\r\n", "\r"):
             self.imports_bicycle(stock=f"SEP=;{end}" + STOCK.replace(",", ";").replace("\n", end))
@@ -228,12 +239,13 @@ class Refusals(InAFolder):
         self.assertIn("stock.csv: onhand: 80 more like these\n", err)
 
     def test_heads(self):
-        err = self.refuses(self.lay_shop(stock="item,pieces\nBIKE,10\n"))
-        self.assertIn(
-            "stock.csv: no column is called 'onhand'; its heads are 'item', 'pieces'; names.toml may say which it is\n", err
-        )
-        self.doCleanups()
-        self.setUp()
+        for titles in ("", "Stock of a Monday\n\n"):
+            err = self.refuses(self.lay_shop(stock=f"{titles}item,pieces\nBIKE,10\n"))
+            self.assertIn(
+                "stock.csv: no column is called 'onhand'; its heads are 'item', 'pieces'; names.toml may say which it is\n", err
+            )
+            self.doCleanups()
+            self.setUp()
         err = self.refuses(self.lay_shop(stock="item,onhand,On Hand\nBIKE,10,12\n"))
         self.assertIn("stock.csv: several columns are called 'onhand'; expected one\n", err)
 
@@ -278,7 +290,9 @@ class Refusals(InAFolder):
             self.setUp()
 
     def test_sources(self):
-        self.assertIn("expected a folder, a workbook .xlsx or a file of queries .toml\n", self.refuses(self.path("none")))
+        stock = self.lay("stock.csv", STOCK)
+        self.assertIn("stock.csv: expected a folder, a workbook .xlsx or a file of queries .toml\n", self.refuses(stock))
+        self.assertIn("none: No such file or directory\n", self.refuses(self.path("none")))
         self.assertIn("shop.ods: is a workbook of another form; save it as .xlsx\n", self.refuses(self.path("shop.ods")))
         self.assertIn("No such file", self.refuses(self.path("none.xlsx")) + self.refuses(self.path("none.toml")))
 
