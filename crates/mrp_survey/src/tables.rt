@@ -7,11 +7,13 @@ ghost use Rattle.mrp_survey.specs.BillParts.{has_key};
 ghost use Rattle.mrp_survey.specs.Forms.{AllCells};
 ghost use Rattle.mrp_survey.specs.Loops.{FindsLoops};
 ghost use Rattle.mrp_survey.specs.Records.{rows_below};
-ghost use Rattle.mrp_survey.specs.Survey.{FindsLoopsIn, calendar_among, calendar_told, dated_form, first_told, form_of, items_among, last_told, missing, missing_from, names_among, names_by, nothing_beside, records_at, rows_in, survey_told, table_told, version_among, version_of_items, versioned_told};
+ghost use Rattle.mrp_survey.specs.Survey.{FindsLoopsIn, IsProgress, IsSurveyOf, begun_in, calendar_among, calendar_told, dated_form, first_told, form_of, items_among, last_told, missing, missing_from, names_among, names_by, nothing_beside, records_at, rows_in, survey_told, table_told, version_among, version_of_items, versioned_told};
 ghost use Rattle.mrp_survey.specs.InTwo.{IsFirstTold};
 
+use crate::begun::{Begun, Progress};
 use crate::bill_lines::{BillLine, tell_bill_lines};
 use crate::calendar::{calendar_in, has_version, version_in};
+use crate::early::is_suspect;
 use crate::finding::{Finding, Place, What, tell};
 use crate::finding_loops::loops_among;
 use crate::form::{Form, dated_key, entry_place};
@@ -549,16 +551,29 @@ fn tell_beside(
     })
 }
 
-/// All that is wrong with the records of nine tables, which stand in the order of the tables; a table without a text is not read.
-///
-/// The tables behind the work centres are read in up to four threads, as many as can be started.
-///
-/// Errors: `NoMemory` if an allocation fails.
-pub fn survey(
+// Surveys the calendar, the items and the work centres.
+fn begun(alloc: Global, sources: &[Option<Source<'_>>; 9]) -> Result<Begun, NoMemory>
+    ensures { IfOk result (λ begun. begun ≡ begun_in sources.now) }
+{
+    let mut findings = Vec::new(alloc);
+    let dated = tell_calendar(alloc, sources, &mut findings)?;
+    let version = dated.version;
+    let beside = tell_beside(alloc, sources, dated, &mut findings)?;
+    Ok(Begun {
+        findings,
+        version,
+        beside,
+    })
+}
+
+// Surveys the other tables.
+fn finish(
     rt: &(impl Threads + Sync),
     alloc: Global,
     sources: &[Option<Source<'_>>; 9],
+    begun: Begun,
 ) -> Result<Survey, NoMemory>
+    requires { begun ≡ begun_in sources.now }
     ensures findings { IfOk result (λ survey. survey.findings ≡ survey_told sources.now) }
     ensures loops { IfOk result (λ survey. FindsLoopsIn sources.now survey.items survey.loops) }
     ensures version { IfOk result (λ survey. survey.version ≡ version_among sources.now) }
@@ -566,10 +581,64 @@ pub fn survey(
     ensures items { IfOk result (λ survey. survey.items ≡ items_among sources.now (version_among sources.now)) }
     ensures centres { IfOk result (λ survey. survey.centres ≡ names_among sources.now (form_of Table.Centres One)) }
 {
-    let mut findings = Vec::new(alloc);
-    let dated = tell_calendar(alloc, sources, &mut findings)?;
-    let version = dated.version;
-    let beside = tell_beside(alloc, sources, dated, &mut findings)?;
+    let Begun {
+        findings,
+        version,
+        beside,
+    } = begun;
+    let mut findings = findings;
     let loops = tell_others(rt, alloc, sources, &beside, version, &mut findings)?;
     surveyed(alloc, findings, loops, version, beside)
+}
+
+// The same as a survey.
+fn finish_begun(
+    rt: &(impl Threads + Sync),
+    alloc: Global,
+    sources: &[Option<Source<'_>>; 9],
+    begun: Begun,
+) -> Result<Survey, NoMemory>
+    requires { begun ≡ begun_in sources.now }
+    ensures { IfOk result (IsSurveyOf sources.now) }
+{
+    finish(rt, alloc, sources, begun)
+}
+
+/// Begins a survey of nine tables, which stand in their order; a table without a text is not read. Where faults are soon found, it is
+/// a whole survey: then there are probably many.
+///
+/// Errors: `NoMemory` if an allocation fails.
+pub fn begin_survey(
+    rt: &(impl Threads + Sync),
+    alloc: Global,
+    sources: &[Option<Source<'_>>; 9],
+) -> Result<Progress, NoMemory>
+    ensures { IfOk result (IsProgress sources.now) }
+{
+    let begun = begun(alloc, sources)?;
+    if is_suspect(alloc, sources, &begun)? {
+        let survey = finish_begun(rt, alloc, sources, begun)?;
+        Ok(Progress::Done(survey))
+    } else {
+        Ok(Progress::Begun(begun))
+    }
+}
+
+/// All that is wrong with the records of nine tables of which a survey is begun. The tables behind the work centres are read in up to
+/// four threads, as many as can be started.
+///
+/// Errors: `NoMemory` if an allocation fails.
+pub fn finish_survey(
+    rt: &(impl Threads + Sync),
+    alloc: Global,
+    sources: &[Option<Source<'_>>; 9],
+    progress: Progress,
+) -> Result<Survey, NoMemory>
+    requires { IsProgress sources.now progress }
+    ensures { IfOk result (IsSurveyOf sources.now) }
+{
+    match progress {
+        Progress::Begun(begun) => finish_begun(rt, alloc, sources, begun),
+        Progress::Done(survey) => Ok(survey),
+    }
 }
