@@ -9,8 +9,7 @@ use Rattle.mrp_tables.specs.declared.version.Version.TheVariants.{One}
 use Rattle.mrp_script.specs.Opened.{IsRefused, Opens}
 use Rattle.mrp_script.specs.declared.fault.OpenFault.{OpenFault}
 use Rattle.mrp_survey.specs.declared.source.Source.{Source}
-use Rattle.mrp_survey.specs.Survey.{FindsLoopsIn}
-use Rattle.mrp_survey.specs.Survey.{calendar_among, form_of, items_among, names_among, survey_told, version_among}
+use Rattle.mrp_survey.specs.Survey.{IsSurveyOf}
 use Rattle.mrp_survey.specs.Surveyed.{Surveyed}
 use Rattle.mrp_inspect.specs.declared.found.Found.{Found}
 use Rattle.mrp_inspect.specs.declared.inspecting.Inspected.{Inspected}
@@ -28,20 +27,6 @@ bundle_in found = joined (parts_of found)
 -- the texts from which the tables are read
 abbrev pub AreSourcesIn : Found → List (Option Source) → Type 0
 AreSourcesIn found sources = AreSources (pieces_of (parts_of found)) sources
-
--- a survey of texts: what is wrong with their records, and what is known of their tables
-pub record IsSurveyOf (sources : List (Option Source)) (survey : Surveyed) : Type 0 where
-  pub findings : survey.findings ≡ survey_told sources
-  pub loops : FindsLoopsIn sources survey.items survey.loops
-  pub version : survey.version ≡ version_among sources
-  pub calendar : survey.calendar ≡ calendar_among sources
-  pub items : survey.items ≡ items_among sources (version_among sources)
-  pub centres : survey.centres ≡ names_among sources (form_of t.Centres One)
-
--- the warnings of a shop, or why it is not opened; or out of memory
-abbrev pub WarnsIfOpened : List ℕ → List (Option Source) → Result (String Global) OpenFault → Type 0
-WarnsIfOpened bundle sources (Ok text) = WarnsOf bundle sources (string_bytes text)
-WarnsIfOpened bundle sources (Err why) = Opens bundle (Err why)
 
 -- the text of all faults: the first line tells this one, by its number, its table and its record, and has its text behind it
 pub record IsFaultsText (found : Found) (sources : List (Option Source)) (fault : Fault) (text : List ℕ) : Type 0 where

@@ -12,6 +12,16 @@ use Rattle.mrp_warn.specs.Texts.{Inspects}
 use Rattle.mrp_warn.specs.Words.{text_of}
 use Rattle.mrp_inspect.specs.Sheets.{AreSheets}
 
+-- the warnings of a shop, kind by kind: its tables are accepted
+pub record AreGroupsOf (bundle : List ℕ) (groups : List Group) : Type 0 where
+  pub tables : Tables
+  pub accepted : IsAccepted bundle tables
+  pub texts : List (List ℕ)
+  pub split : bundle_of bundle ≡ Ok texts
+  pub seen : Inspected
+  pub inspects : Inspects texts tables seen
+  pub warnings : AreWarnings seen groups
+
 -- the warnings of a shop: its tables are accepted, and each record that is odd is told with its line
 pub record WarnsOf (bundle : List ℕ) (sources : List (Option Source)) (text : List ℕ) : Type 0 where
   pub tables : Tables

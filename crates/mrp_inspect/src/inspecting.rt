@@ -1,14 +1,16 @@
 //! Telling what is wrong with the tables of a folder, or what is odd.
 
 ghost use Rattle.std.specs.Prelude.{◌≡◌, ◌++◌, ◌∷◌, [], ℕ, IfOk, List, OnOk, Option, filter_map, flat_map, map, string_bytes};
-ghost use Rattle.mrp_script.specs.Opened.{Opens};
+ghost use Rattle.mrp_script.specs.Opened.{IsAccepted, Opens};
 ghost use Rattle.mrp_survey.specs.declared.source.Source.{Source};
+ghost use Rattle.mrp_survey.specs.Survey.{IsProgress, IsSurveyOf};
+ghost use Rattle.mrp_inspect.specs.declared.found.Found.{Found};
 ghost use Rattle.mrp_advice.specs.Lines.{survey_lines};
 ghost use Rattle.mrp_advice.specs.Listing.{listed_in, with_lines};
 ghost use Rattle.mrp_words.specs.Folder.{all_tables};
 ghost use Rattle.mrp_inspect.specs.Faults.{lines_found, lines_if, texts_of};
 ghost use Rattle.mrp_inspect.specs.Found.{parts_of};
-ghost use Rattle.mrp_inspect.specs.Inspected.{Inspects, IsFaultsText, IsSurveyOf, Tells, WarnsIfOpened, bundle_in};
+ghost use Rattle.mrp_inspect.specs.Inspected.{Inspects, IsFaultsText, Tells, bundle_in};
 ghost use Rattle.mrp_inspect.specs.Words.{path_text, missing_of, stray_text};
 ghost use Rattle.mrp_inspect.specs.Pieces.{pieces_of};
 ghost use Rattle.mrp_inspect.specs.Strays.{firsts_of, strays_of};
@@ -25,10 +27,11 @@ use crate::stray::{Stray, firsts_of, strays_of};
 use crate::warning::warnings_of;
 use crate::words::{path_text, push_files};
 use mrp_advice::{Listing, push_survey};
+use mrp_bill::Shop;
 use mrp_qty::NoMemory;
 use mrp_rows::Fault;
 use mrp_script::{OpenFault, open_shop};
-use mrp_survey::{Source, Survey, survey};
+use mrp_survey::{Progress, Source, Survey, begin_survey, finish_survey};
 use mrp_words::join_tables;
 use std::alloc::Global;
 use std::thread::Threads;
@@ -142,53 +145,24 @@ fn faults_of(
     told_texts(alloc, lines)
 }
 
-// A survey of the texts of tables.
-fn survey_of(
-    rt: &(impl Threads + Sync),
-    alloc: Global,
-    sources: &[Option<Source<'_>>; 9],
-) -> Result<Survey, NoMemory>
-    ensures { IfOk result (IsSurveyOf sources.now) }
-{
-    survey(rt, alloc, sources)
-}
-
-// The warnings of the shop of a bundle, or why it is not opened.
-fn open_and_warn(
-    rt: &impl Threads,
-    alloc: Global,
-    bundle: &[u8],
-    sources: &[Option<Source<'_>>; 9],
-) -> Result<String, OpenFault>
-    ensures { WarnsIfOpened bundle.now sources.now result }
-{
-    match open_shop(rt, alloc, bundle) {
-        Ok(shop) => match warnings_of(alloc, bundle, &shop, sources) {
-            Ok(text) => Ok(text),
-            Err(NoMemory) => Err(OpenFault::NoMemory),
-        },
-        Err(why) => Err(why),
-    }
-}
-
-// A survey of the texts of tables, and beside it what is odd about them or why they are refused, in two threads if a second one can
-// be started: nobody knows before whether they are refused, and either takes about as long as the other.
-fn survey_and_open(
+// The beginning of a survey of the texts of tables, and beside it the shop of their bundle or why it is not opened, in two threads if
+// a second one can be started.
+fn begin_and_open(
     rt: &(impl Threads + Sync),
     alloc: Global,
     bundle: &[u8],
     sources: &[Option<Source<'_>>; 9],
-) -> (Result<Survey, NoMemory>, Result<String, OpenFault>)
-    ensures surveyed { IfOk result.0 (IsSurveyOf sources.now) }
-    ensures opened { WarnsIfOpened bundle.now sources.now result.1 }
+) -> (Result<Progress, NoMemory>, Result<Shop, OpenFault>)
+    ensures begun { IfOk result.0 (IsProgress sources.now) }
+    ensures opened { Opens bundle.now result.1 }
 {
-    let tell = move || -> Result<Survey, NoMemory>
-        ensures { IfOk result (IsSurveyOf sources.entry.now) }
-    { survey_of(rt, alloc, sources) };
-    let open = move || -> Result<String, OpenFault>
-        ensures { WarnsIfOpened bundle.entry.now sources.entry.now result }
-    { open_and_warn(rt, alloc, bundle, sources) };
-    thread::join(rt, tell, open)
+    let begin = move || -> Result<Progress, NoMemory>
+        ensures { IfOk result (IsProgress sources.entry.now) }
+    { begin_survey(rt, alloc, sources) };
+    let open = move || -> Result<Shop, OpenFault>
+        ensures { Opens bundle.entry.now result }
+    { open_shop(rt, alloc, bundle) };
+    thread::join(rt, begin, open)
 }
 
 // What is told where tables are refused, with a survey of their texts.
@@ -225,7 +199,50 @@ fn texts_of_one(alloc: Global, text: String) -> Result<Vec<String>, NoMemory>
     Ok(texts)
 }
 
-// What is told where tables are accepted, or refused.
+// What is told where tables are accepted.
+fn inspect_accepted(
+    rt: &(impl Threads + Sync),
+    alloc: Global,
+    bundle: &[u8],
+    shop: &Shop,
+    sources: &[Option<Source<'_>>; 9],
+) -> Result<Inspected, NoMemory>
+    requires accepted { IsAccepted bundle.now shop.now.tables }
+    ensures { (found : Found) → IfOk result (λ inspected. Tells inspected.has_faults bundle.now found sources.now (flat_map string_bytes inspected.texts.items)) }
+{
+    let text = warnings_of(rt, alloc, bundle, shop, sources)?;
+    let texts = texts_of_one(alloc, text)?;
+    Ok(Inspected {
+        texts,
+        has_faults: false,
+    })
+}
+
+// The faults of tables of which a survey is begun.
+fn survey_refused(
+    rt: &(impl Threads + Sync),
+    alloc: Global,
+    found: &Found,
+    firsts: &[Option<usize>],
+    strays: &[Stray<'_>],
+    sources: &[Option<Source<'_>>; 9],
+    progress: Progress,
+    why: OpenFault,
+) -> Result<Inspected, NoMemory>
+    requires firsts { firsts.now ≡ firsts_of (pieces_of (parts_of found.now)) }
+    requires strays { strays.now ≡ strays_of (pieces_of (parts_of found.now)) }
+    requires progress { IsProgress sources.now progress }
+    ensures { (bundle : List ℕ) → Opens bundle (Err why) → IfOk result (λ inspected. Tells inspected.has_faults bundle found.now sources.now (flat_map string_bytes inspected.texts.items)) }
+{
+    let survey = finish_survey(rt, alloc, sources, progress)?;
+    let told = inspect_refused(rt, alloc, found, firsts, strays, &survey, why);
+    // Of each record with a fault it has a copy, and the program ends soon.
+    mem::forget(survey);
+    told
+}
+
+// What is told where tables are accepted, or refused. Where no fault is soon found, the survey waits for the shop: it is needed only
+// if that is refused.
 fn inspect_sources(
     rt: &(impl Threads + Sync),
     alloc: Global,
@@ -239,22 +256,11 @@ fn inspect_sources(
     requires strays { strays.now ≡ strays_of (pieces_of (parts_of found.now)) }
     ensures { IfOk result (λ inspected. Tells inspected.has_faults bundle.now found.now sources.now (flat_map string_bytes inspected.texts.items)) }
 {
-    let (surveyed, opened) = survey_and_open(rt, alloc, bundle, sources);
-    let survey = surveyed?;
+    let (begun, opened) = begin_and_open(rt, alloc, bundle, sources);
+    let progress = begun?;
     match opened {
-        Ok(text) => {
-            let texts = texts_of_one(alloc, text)?;
-            Ok(Inspected {
-                texts,
-                has_faults: false,
-            })
-        }
-        Err(why) => {
-            let told = inspect_refused(rt, alloc, found, firsts, strays, &survey, why);
-            // Of each record with a fault it has a copy, and the program ends soon.
-            mem::forget(survey);
-            told
-        }
+        Ok(shop) => inspect_accepted(rt, alloc, bundle, &shop, sources),
+        Err(why) => survey_refused(rt, alloc, found, firsts, strays, sources, progress, why),
     }
 }
 
@@ -288,8 +294,8 @@ fn inspect_pieces(
 /// all faults, each with its file, line and column; the first is the fault that planning tells, with its words behind it. Where they are
 /// accepted, it tells warnings of what is odd. Nothing is planned.
 ///
-/// Tables are read and at the same time surveyed, in several threads, as many as can be started. The memory of a survey that is told is
-/// not given back.
+/// Tables are read, surveyed and looked at for what is odd in several threads, as many as can be started. The memory of a survey that is
+/// told is not given back.
 ///
 /// Errors: `NoMemory` if an allocation fails.
 pub fn inspect(

@@ -8,6 +8,17 @@ use crate::line::Line;
 use mrp_qty::NoMemory;
 use std::alloc::Global;
 
+// The items in the order of the table.
+pub(crate) fn table_order(alloc: Global, count: usize) -> Result<Vec<usize>, NoMemory>
+    ensures { IfOk result (λ order. All (λ item. item < count) order.items) }
+{
+    let mut order = Vec::with_capacity(alloc, count)?;
+    for item in 0..count {
+        order.push(item)?;
+    }
+    Ok(order)
+}
+
 // The last place of each item in an order; 0, where it has none.
 fn places_in(alloc: Global, count: usize, order: &[usize]) -> Result<Vec<usize>, NoMemory>
     requires { All (λ item. item < count) order.now }

@@ -5,7 +5,7 @@ ghost use Rattle.mrp_loops.specs.Links.{AreLinks};
 ghost use Rattle.mrp_loops.specs.Loops.{AreRising, IsTold, IsWayBack, IsWithin, items_of};
 ghost use Rattle.mrp_loops.specs.Needs.{AreWithin, IsFirst, Needs};
 
-use crate::falling::always_falls;
+use crate::falling::{always_falls, table_order};
 use crate::line::{Line, Loop};
 use crate::links::Links;
 use crate::ranks::ranks_of;
@@ -167,6 +167,12 @@ pub fn loops(alloc: Global, count: usize, lines: &[Line]) -> Result<Vec<Loop>, N
     ensures rising { IfOk result (λ loops. AreRising (items_of loops.items)) }
     ensures all { IfOk result (λ loops. (item : ℕ) → Needs lines.now item item → IsTold lines.now (items_of loops.items) item) }
 {
+    // Items often stand above their components, which is soon seen.
+    let table = table_order(alloc, count)?;
+    let leads_on = always_falls(alloc, count, lines, &table)?;
+    if leads_on {
+        return Ok(Vec::new(alloc));
+    }
     let up = Links::up(alloc, count, lines)?;
     let order = order_of(alloc, count, &up)?;
     let falls = always_falls(alloc, count, lines, &order)?;

@@ -1,5 +1,5 @@
 -- What is told of nine tables (profile).
-use Rattle.std.specs.Prelude.{ℕ, ◌+◌, ◌-◌, Bool, false, if◌then◌else◌, List, [], ◌++◌, length, map, slice_index_or, Option, Some, None, option_and_then, option_map}
+use Rattle.std.specs.Prelude.{ℕ, ◌≡◌, ◌+◌, ◌-◌, Bool, false, if◌then◌else◌, List, [], ◌++◌, length, map, slice_index_or, Option, Some, None, option_and_then, option_map}
 use Rattle.std.specs.List.{range_with_len}
 use Rattle.mrp_cal.specs.Calendar.{ShopCalendar}
 use Rattle.mrp_rows.specs.declared.fault.Table.{Table}
@@ -8,6 +8,8 @@ use Rattle.mrp_rows.specs.Shown.{nothing_shown}
 use Rattle.mrp_rows.specs.Tables.{table_index}
 use Rattle.mrp_tables.specs.declared.version.Version.{Version}
 use Rattle.mrp_tables.specs.declared.version.Version.TheVariants.{One, Three}
+use Rattle.mrp_survey.specs.declared.begun.Progress.{Progress}
+use Rattle.mrp_survey.specs.declared.begun.Progress.TheVariants.{Begun, Done}
 use Rattle.mrp_survey.specs.declared.finding.What.TheVariants as what
 use Rattle.mrp_survey.specs.declared.form.Form.{Form}
 use Rattle.mrp_survey.specs.declared.rule.Beside.{Beside}
@@ -19,7 +21,7 @@ use Rattle.mrp_survey.specs.Horizons.{calendar_in, has_version, version_in}
 use Rattle.mrp_survey.specs.Loops.{FindsLoops}
 use Rattle.mrp_survey.specs.Names.{Names}
 use Rattle.mrp_survey.specs.Records.{Records, records_from, rows_below}
-use Rattle.mrp_survey.specs.Surveyed.{LoopTold}
+use Rattle.mrp_survey.specs.Surveyed.{LoopTold, SurveyBegun, Surveyed}
 use Rattle.mrp_survey.specs.Tables.{header_told, names_in, row_shown, told_from}
 use Rattle.mrp_survey.specs.Told.{told}
 
@@ -152,6 +154,17 @@ beside_in sources = record {
   calendar = calendar_among sources;
 }
 
+-- what is told of the calendar, the items and the work centres, and what the others look at
+abbrev pub begun_in : Sources → SurveyBegun
+begun_in sources = record {
+  findings =
+      calendar_told sources
+      ++ versioned_told sources nothing_beside t.Items (version_among sources)
+      ++ table_told (form_of t.Centres One) nothing_beside (records_at sources t.Centres);
+  version = version_among sources;
+  beside = beside_in sources;
+}
+
 -- the sets of known items that need one another
 abbrev pub FindsLoopsIn : Sources → Option Names → List LoopTold → Type 0
 FindsLoopsIn sources items loops = FindsLoops (form_of t.Bills One) items (records_at sources t.Bills) loops
@@ -164,3 +177,17 @@ survey_told sources =
     ++ table_told (form_of t.Centres One) nothing_beside (records_at sources t.Centres)
     ++ first_told sources (beside_in sources)
     ++ last_told sources (beside_in sources) (version_among sources)
+
+-- a survey of texts: what is wrong with their records, and what is known of their tables
+pub record IsSurveyOf (sources : Sources) (survey : Surveyed) : Type 0 where
+  pub findings : survey.findings ≡ survey_told sources
+  pub loops : FindsLoopsIn sources survey.items survey.loops
+  pub version : survey.version ≡ version_among sources
+  pub calendar : survey.calendar ≡ calendar_among sources
+  pub items : survey.items ≡ items_among sources (version_among sources)
+  pub centres : survey.centres ≡ names_among sources (form_of t.Centres One)
+
+-- the same where it may only be begun
+abbrev pub IsProgress : Sources → Progress → Type 0
+IsProgress sources (Begun begun) = begun ≡ begun_in sources
+IsProgress sources (Done survey) = IsSurveyOf sources survey

@@ -3,6 +3,7 @@ use Rattle.std.specs.Prelude.{ℕ, List, Option}
 use Rattle.mrp_cal.specs.Calendar.{ShopCalendar}
 use Rattle.mrp_rows.specs.declared.fault.Table.{Table}
 use Rattle.mrp_tables.specs.declared.version.Version.{Version}
+use Rattle.mrp_survey.specs.declared.rule.Beside.{Beside}
 use Rattle.mrp_survey.specs.Finding.{Told}
 use Rattle.mrp_survey.specs.Names.{Names}
 
@@ -21,3 +22,9 @@ pub record Surveyed : Type 0 where
   pub calendar : Option ShopCalendar
   pub items : Option Names
   pub centres : Option Names
+
+-- what is told of the calendar, the items and the work centres, and what other tables look at
+pub record SurveyBegun : Type 0 where
+  pub findings : List Told
+  pub version : Option Version
+  pub beside : Beside

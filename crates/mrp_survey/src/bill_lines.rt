@@ -41,11 +41,11 @@ fn bill_line(
     requires { named.now ≡ named_of items.now entry.now }
     ensures { result ≡ bill_line width items.now entry.now }
 {
+    let parent = found_in(items, named, entry, 0).place?;
+    let component = found_in(items, named, entry, 1).place?;
     if !is_whole(width, entry) || misfit(items, named, entry, 1).is_some() {
         return None;
     }
-    let parent = found_in(items, named, entry, 0).place?;
-    let component = found_in(items, named, entry, 1).place?;
     Some(BillLine {
         number: entry.place.number,
         line: Line { parent, component },

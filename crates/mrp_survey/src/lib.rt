@@ -1,8 +1,10 @@
 //! All that is wrong with the tables of a folder, each fault with its file, line and column.
 #![tactic(auto)]
 
+mod begun;
 mod bill_lines;
 mod calendar;
+mod early;
 mod finding;
 mod finding_loops;
 mod form;
@@ -25,6 +27,7 @@ mod table;
 mod tables;
 mod tell;
 
+pub use begun::Progress;
 pub use finding::{Finding, What};
 pub use form::cell_in;
 pub use found_loop::FoundLoop;
@@ -35,4 +38,4 @@ pub use lines::{ends_own_line, record_lines};
 pub use record::are_empty_from;
 pub use source::Source;
 pub use surveyed::Survey;
-pub use tables::survey;
+pub use tables::{begin_survey, finish_survey};

@@ -87,7 +87,7 @@ fn add_first(name: Name, firsts: &mut IndexMap<Name, Name>) -> Result<(), NoMemo
 fn firsts_of(alloc: Global, known: &Known) -> Result<IndexMap<Name, Name>, NoMemory>
     ensures { IfOk result (λ firsts. HasFirsts known.now firsts.entries) }
 {
-    let mut firsts = IndexMap::new(alloc);
+    let mut firsts = IndexMap::with_capacity(alloc, known.len())?;
     for place in 0..known.len() {
         if let Some(name) = known.name_at(place) {
             add_first(name, &mut firsts)?;

@@ -121,11 +121,11 @@ impl<'a> Sheet<'a> {
         self.lines.get(number).copied().unwrap_or(0)
     }
 
-    // The number of a record about in the middle.
+    // The number of a record behind the middle: to pass over the records in front takes about an eighth of what reading them takes.
     pub(crate) fn middle(&self) -> usize
         ensures { 1 ≤ result }
     {
-        1 + self.lines.len() / 2
+        1 + self.lines.len() / 32 * 17
     }
 
     // Where a record is.

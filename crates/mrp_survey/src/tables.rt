@@ -7,11 +7,13 @@ ghost use Rattle.mrp_survey.specs.BillParts.{has_key};
 ghost use Rattle.mrp_survey.specs.Forms.{AllCells};
 ghost use Rattle.mrp_survey.specs.Loops.{FindsLoops};
 ghost use Rattle.mrp_survey.specs.Records.{rows_below};
-ghost use Rattle.mrp_survey.specs.Survey.{FindsLoopsIn, calendar_among, calendar_told, dated_form, first_told, form_of, items_among, last_told, missing, missing_from, names_among, names_by, nothing_beside, records_at, rows_in, survey_told, table_told, version_among, version_of_items, versioned_told};
-ghost use Rattle.mrp_survey.specs.InTwo.{IsFirstTold};
+ghost use Rattle.mrp_survey.specs.Survey.{FindsLoopsIn, IsProgress, IsSurveyOf, begun_in, calendar_among, calendar_told, dated_form, first_told, form_of, items_among, last_told, missing, missing_from, names_among, names_by, nothing_beside, records_at, rows_in, survey_told, table_told, version_among, version_of_items, versioned_told};
+ghost use Rattle.mrp_survey.specs.InTwo.{IsBillsTold, IsFirstTold, stock_told};
 
+use crate::begun::{Begun, Progress};
 use crate::bill_lines::{BillLine, tell_bill_lines};
 use crate::calendar::{calendar_in, has_version, version_in};
+use crate::early::is_suspect;
 use crate::finding::{Finding, Place, What, tell};
 use crate::finding_loops::loops_among;
 use crate::form::{Form, dated_key, entry_place};
@@ -393,9 +395,79 @@ fn tell_bills(
     }
 }
 
+// What is told of the stock and the receipts.
+fn tell_stock(
+    alloc: Global,
+    sources: &[Option<Source<'_>>; 9],
+    beside: &Beside,
+) -> Result<Vec<Finding>, NoMemory>
+    ensures { IfOk result (λ findings. findings.items ≡ stock_told sources.now beside.now) }
+{
+    let first = Some(Version::One);
+    let mut own = Vec::new(alloc);
+    tell_other(alloc, sources, beside, Table::Stock, first, &mut own)?;
+    tell_other(alloc, sources, beside, Table::Receipts, first, &mut own)?;
+    Ok(own)
+}
+
+// What is told of the bills.
+fn tell_bills_alone(
+    rt: &impl Threads,
+    alloc: Global,
+    sources: &[Option<Source<'_>>; 9],
+    beside: &Beside,
+) -> Result<FirstTold, NoMemory>
+    ensures { IfOk result (IsBillsTold sources.now beside.now) }
+{
+    let mut own = Vec::new(alloc);
+    let loops = tell_bills(rt, alloc, sources, beside, &mut own)?;
+    Ok(FirstTold {
+        findings: own,
+        loops,
+    })
+}
+
+// Both, in two threads if a second one can be started.
+fn tell_stock_and_bills(
+    rt: &(impl Threads + Sync),
+    alloc: Global,
+    sources: &[Option<Source<'_>>; 9],
+    beside: &Beside,
+) -> (Result<Vec<Finding>, NoMemory>, Result<FirstTold, NoMemory>)
+    ensures stock { IfOk result.0 (λ findings. findings.items ≡ stock_told sources.now beside.now) }
+    ensures bills { IfOk result.1 (IsBillsTold sources.now beside.now) }
+{
+    let read_stock = move || -> Result<Vec<Finding>, NoMemory>
+        ensures { IfOk result (λ findings. findings.items ≡ stock_told sources.entry.now beside.entry.now) }
+    { tell_stock(alloc, sources, beside) };
+    let read_bills = move || -> Result<FirstTold, NoMemory>
+        ensures { IfOk result (IsBillsTold sources.entry.now beside.entry.now) }
+    { tell_bills_alone(rt, alloc, sources, beside) };
+    thread::join(rt, read_stock, read_bills)
+}
+
+// What is told of the bills, behind what was told before and what is told of the stock.
+fn put_behind(
+    before: Vec<Finding>,
+    stock: Vec<Finding>,
+    bills: FirstTold,
+) -> Result<FirstTold, NoMemory>
+    ensures { IfOk result (λ first. (first.findings.items ≡ before.items ++ stock.items ++ bills.findings.items) × (first.loops ≡ bills.loops)) }
+{
+    let mut own = before;
+    let mut stock = stock;
+    let mut bills = bills;
+    own.append(&mut stock)?;
+    own.append(&mut bills.findings)?;
+    Ok(FirstTold {
+        findings: own,
+        loops: bills.loops,
+    })
+}
+
 // Takes findings out, and tells behind them what is wrong with the tables from the stock to the bills.
 fn tell_first(
-    rt: &impl Threads,
+    rt: &(impl Threads + Sync),
     alloc: Global,
     sources: &[Option<Source<'_>>; 9],
     beside: &Beside,
@@ -403,15 +475,11 @@ fn tell_first(
 ) -> Result<FirstTold, NoMemory>
     ensures { IfOk result (IsFirstTold sources.now beside.now findings.old.items) }
 {
-    let first = Some(Version::One);
-    let mut own = mem::replace(findings, Vec::new(alloc));
-    tell_other(alloc, sources, beside, Table::Stock, first, &mut own)?;
-    tell_other(alloc, sources, beside, Table::Receipts, first, &mut own)?;
-    let loops = tell_bills(rt, alloc, sources, beside, &mut own)?;
-    Ok(FirstTold {
-        findings: own,
-        loops,
-    })
+    let before = mem::replace(findings, Vec::new(alloc));
+    let (stock, bills) = tell_stock_and_bills(rt, alloc, sources, beside);
+    let stock = stock?;
+    let bills = bills?;
+    put_behind(before, stock, bills)
 }
 
 // Tells what is wrong with the master schedule, which is read only where the version is right.
@@ -470,7 +538,7 @@ fn put_last(
     Ok(first.loops)
 }
 
-// Tells what is wrong with the tables that look at others, in two threads and two more if they can be started, and returns the sets
+// Tells what is wrong with the tables that look at others, in up to five threads, as many as can be started, and returns the sets
 // of items that need one another.
 fn tell_others(
     rt: &(impl Threads + Sync),
@@ -549,16 +617,29 @@ fn tell_beside(
     })
 }
 
-/// All that is wrong with the records of nine tables, which stand in the order of the tables; a table without a text is not read.
-///
-/// The tables behind the work centres are read in up to four threads, as many as can be started.
-///
-/// Errors: `NoMemory` if an allocation fails.
-pub fn survey(
+// Surveys the calendar, the items and the work centres.
+fn begun(alloc: Global, sources: &[Option<Source<'_>>; 9]) -> Result<Begun, NoMemory>
+    ensures { IfOk result (λ begun. begun ≡ begun_in sources.now) }
+{
+    let mut findings = Vec::new(alloc);
+    let dated = tell_calendar(alloc, sources, &mut findings)?;
+    let version = dated.version;
+    let beside = tell_beside(alloc, sources, dated, &mut findings)?;
+    Ok(Begun {
+        findings,
+        version,
+        beside,
+    })
+}
+
+// Surveys the other tables.
+fn finish(
     rt: &(impl Threads + Sync),
     alloc: Global,
     sources: &[Option<Source<'_>>; 9],
+    begun: Begun,
 ) -> Result<Survey, NoMemory>
+    requires { begun ≡ begun_in sources.now }
     ensures findings { IfOk result (λ survey. survey.findings ≡ survey_told sources.now) }
     ensures loops { IfOk result (λ survey. FindsLoopsIn sources.now survey.items survey.loops) }
     ensures version { IfOk result (λ survey. survey.version ≡ version_among sources.now) }
@@ -566,10 +647,64 @@ pub fn survey(
     ensures items { IfOk result (λ survey. survey.items ≡ items_among sources.now (version_among sources.now)) }
     ensures centres { IfOk result (λ survey. survey.centres ≡ names_among sources.now (form_of Table.Centres One)) }
 {
-    let mut findings = Vec::new(alloc);
-    let dated = tell_calendar(alloc, sources, &mut findings)?;
-    let version = dated.version;
-    let beside = tell_beside(alloc, sources, dated, &mut findings)?;
+    let Begun {
+        findings,
+        version,
+        beside,
+    } = begun;
+    let mut findings = findings;
     let loops = tell_others(rt, alloc, sources, &beside, version, &mut findings)?;
     surveyed(alloc, findings, loops, version, beside)
+}
+
+// The same as a survey.
+fn finish_begun(
+    rt: &(impl Threads + Sync),
+    alloc: Global,
+    sources: &[Option<Source<'_>>; 9],
+    begun: Begun,
+) -> Result<Survey, NoMemory>
+    requires { begun ≡ begun_in sources.now }
+    ensures { IfOk result (IsSurveyOf sources.now) }
+{
+    finish(rt, alloc, sources, begun)
+}
+
+/// Begins a survey of nine tables, which stand in their order; a table without a text is not read. Where faults are soon found, it is
+/// a whole survey: then there are probably many.
+///
+/// Errors: `NoMemory` if an allocation fails.
+pub fn begin_survey(
+    rt: &(impl Threads + Sync),
+    alloc: Global,
+    sources: &[Option<Source<'_>>; 9],
+) -> Result<Progress, NoMemory>
+    ensures { IfOk result (IsProgress sources.now) }
+{
+    let begun = begun(alloc, sources)?;
+    if is_suspect(alloc, sources, &begun)? {
+        let survey = finish_begun(rt, alloc, sources, begun)?;
+        Ok(Progress::Done(survey))
+    } else {
+        Ok(Progress::Begun(begun))
+    }
+}
+
+/// All that is wrong with the records of nine tables of which a survey is begun. The tables behind the work centres are read in up to
+/// five threads, as many as can be started.
+///
+/// Errors: `NoMemory` if an allocation fails.
+pub fn finish_survey(
+    rt: &(impl Threads + Sync),
+    alloc: Global,
+    sources: &[Option<Source<'_>>; 9],
+    progress: Progress,
+) -> Result<Survey, NoMemory>
+    requires { IsProgress sources.now progress }
+    ensures { IfOk result (IsSurveyOf sources.now) }
+{
+    match progress {
+        Progress::Begun(begun) => finish_begun(rt, alloc, sources, begun),
+        Progress::Done(survey) => Ok(survey),
+    }
 }

@@ -40,6 +40,10 @@ pub record IsGroup (i : Inspected) (kind : Kind) (group : Group) : Type 0 where
   pub kind_is : group.kind ≡ kind
   pub tells : Tells i kind group.warnings.items
 
--- all kinds with their warnings, in order
+-- some kinds with their warnings, in order
+abbrev pub AreGroups : Inspected → List Kind → List Group → Type 0
+AreGroups i some groups = AllZip (IsGroup i) some groups
+
+-- all kinds
 abbrev pub AreWarnings : Inspected → List Group → Type 0
-AreWarnings i groups = AllZip (IsGroup i) kinds groups
+AreWarnings i groups = AreGroups i kinds groups

@@ -1,7 +1,7 @@
 //! The warnings of each kind.
 
-ghost use Rattle.std.specs.Prelude.{IfOk};
-ghost use Rattle.mrp_warn.specs.Tells.{AreWarnings, Tells};
+ghost use Rattle.std.specs.Prelude.{◌++◌, IfOk};
+ghost use Rattle.mrp_warn.specs.Tells.{AreGroups, AreWarnings, Tells};
 
 use crate::bills::{doubled_warnings, per_warnings};
 use crate::calendar::week_warnings;
@@ -17,6 +17,8 @@ use crate::oddity::Warning;
 use crate::runs::run_warnings;
 use mrp_qty::NoMemory;
 use std::alloc::Global;
+use std::thread;
+use std::thread::Threads;
 
 /// The warnings of a kind.
 #[derive(Drop)]
@@ -54,16 +56,16 @@ fn told(alloc: Global, inspection: &Inspection<'_>, kind: Kind) -> Result<Vec<Wa
     }
 }
 
-/// The warnings of accepted tables, kind by kind, in the order of [`kinds`]: exactly one of each record that
-/// has the condition of its kind, in the order of the records. Of a table without a record of stock there
-/// is one for all items.
-///
-/// Errors: `NoMemory` if an allocation fails.
-pub fn warnings(alloc: Global, inspection: &Inspection<'_>) -> Result<Vec<Group>, NoMemory>
-    ensures { IfOk result (λ groups. AreWarnings inspection.now groups.items) }
+// The warnings of some kinds, kind by kind.
+fn groups_of(
+    alloc: Global,
+    inspection: &Inspection<'_>,
+    kinds: &[Kind],
+) -> Result<Vec<Group>, NoMemory>
+    ensures { IfOk result (λ groups. AreGroups inspection.now kinds.now groups.items) }
 {
     let mut groups = Vec::new(alloc);
-    for kind in kinds() {
+    for kind in kinds {
         let warnings = told(alloc, inspection, *kind)?;
         groups.push(Group {
             kind: *kind,
@@ -71,4 +73,45 @@ pub fn warnings(alloc: Global, inspection: &Inspection<'_>) -> Result<Vec<Group>
         })?;
     }
     Ok(groups)
+}
+
+// The same of some kinds and others behind them, in two threads if a second one can be started.
+fn groups_of_both(
+    rt: &impl Threads,
+    alloc: Global,
+    inspection: &Inspection<'_>,
+    front: &[Kind],
+    back: &[Kind],
+) -> Result<Vec<Group>, NoMemory>
+    ensures { IfOk result (λ groups. AreGroups inspection.now (front.now ++ back.now) groups.items) }
+{
+    let tell_front = move || -> Result<Vec<Group>, NoMemory>
+        ensures { IfOk result (λ groups. AreGroups inspection.entry.now front.entry.now groups.items) }
+    { groups_of(alloc, inspection, front) };
+    let tell_back = move || -> Result<Vec<Group>, NoMemory>
+        ensures { IfOk result (λ groups. AreGroups inspection.entry.now back.entry.now groups.items) }
+    { groups_of(alloc, inspection, back) };
+    let (first, second) = thread::join(rt, tell_front, tell_back);
+    let mut groups = first?;
+    let mut others = second?;
+    groups.append(&mut others)?;
+    Ok(groups)
+}
+
+/// The warnings of accepted tables, kind by kind, in the order of [`kinds`]: exactly one of each record that
+/// has the condition of its kind, in the order of the records. Of a table without a record of stock there
+/// is one for all items. They are looked for in two threads if a second one can be started.
+///
+/// Errors: `NoMemory` if an allocation fails.
+pub fn warnings(
+    rt: &impl Threads,
+    alloc: Global,
+    inspection: &Inspection<'_>,
+) -> Result<Vec<Group>, NoMemory>
+    ensures { IfOk result (λ groups. AreWarnings inspection.now groups.items) }
+{
+    let kinds = kinds();
+    // Those of the bills, behind these, take about as long.
+    let (front, back) = kinds.split_at(kinds.len() / 3 * 2);
+    groups_of_both(rt, alloc, inspection, front, back)
 }
