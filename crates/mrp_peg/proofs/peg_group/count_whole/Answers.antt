@@ -1,4 +1,4 @@
-use Rattle.std.proofs.Common.{◌≡◌, ◌∙◌, ◌+◌, ◌<◌, ◌≤◌, ap, arith, length, sym, tt}
+use Rattle.std.proofs.Common.{◌≡◌, ◌∙◌, ◌+◌, ◌<◌, ◌≤◌, ap, arith, length, refl, sym}
 use Rattle.std.specs.Prelude.{All}
 use Rattle.std.proofs.lemmas.List.{get_or_read}
 use Rattle.std.proofs.lemmas.List.Elements.{All-more}
@@ -17,10 +17,10 @@ loop-count-preserved c =
     let is = get_or_read needs k r within c.index-needs-count-in-loop-count.is in
     let same : r ≡ first = is first ∙ sym c.index-needs-count.is in
     let pieces : c.value-left-in-loop-count.result ≡ r.quantity = c.value-left-in-loop-count.ensures.pieces ∙ ap (λ (x : Requirement). x.quantity) (sym c.index-needs-count-in-loop-count.is) in
-    let enough : first.quantity ≤ c.loop-count.left = c.if-is_whole.ensures.enough tt in
+    let enough : first.quantity ≤ c.loop-count.left = c.if-is_whole.ensures.enough refl in
     record {
       few = omega (arith, c.loop-count-test.true);
-      weekly = All-more (λ (x : Requirement). x.need.week ≡ c.args.week) needs k first within before.weekly (ap (λ (x : Requirement). x.need.week) (sym c.index-needs-count.is) ∙ c.if-is_whole.ensures.week tt);
-      some = All-more (λ (x : Requirement). 0 < x.quantity) needs k first within before.some (omega (arith, c.if-is_whole.ensures.some tt, ap (λ (x : Requirement). x.quantity) c.index-needs-count.is));
+      weekly = All-more (λ (x : Requirement). x.need.week ≡ c.args.week) needs k first within before.weekly (ap (λ (x : Requirement). x.need.week) (sym c.index-needs-count.is) ∙ c.if-is_whole.ensures.week refl);
+      some = All-more (λ (x : Requirement). 0 < x.quantity) needs k first within before.some (omega (arith, c.if-is_whole.ensures.some refl, ap (λ (x : Requirement). x.quantity) c.index-needs-count.is));
       sum = omega (arith, before.sum, total_more needs k r r within c.index-needs-count-in-loop-count.is, pieces, enough, ap (λ (x : Requirement). x.quantity) same);
     }
