@@ -1,13 +1,15 @@
+mod BracketPlaces
 mod CellCuts
 pub mod CellPlaces
 mod CsvRecords
 mod CsvSteps
 mod DigitCells
 mod FirstRecords
-mod NameBytes
 mod OnlyRows
+mod PaddedTexts
 mod RecordCuts
 pub mod JoinedParts
+mod MaskLanes
 pub mod SectionLaws
 pub mod SplitLines
 pub mod SplitPlaces

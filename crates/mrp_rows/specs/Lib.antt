@@ -7,6 +7,7 @@ pub mod Devices
 pub mod FaultText
 pub mod Joined
 pub mod Left
+pub mod Masks
 pub mod Name
 pub mod Next
 pub mod Only

@@ -12,6 +12,7 @@ mod fault;
 mod fault_texts;
 pub mod faults;
 mod join;
+mod masks;
 mod name;
 mod only;
 mod record;
