@@ -1,12 +1,16 @@
 mod BracketPlaces
 mod CellCuts
 pub mod CellPlaces
+mod CopiedLines
 mod CsvRecords
 mod CsvSteps
 mod DigitCells
 mod FirstRecords
+mod HeldCells
 mod OnlyRows
 mod PaddedTexts
+mod PlainCells
+mod PlainStops
 mod RecordCuts
 pub mod JoinedParts
 mod MaskLanes

@@ -1,5 +1,5 @@
 -- From the mask of one load to the bytes that pass a test.
-use Rattle.std.proofs.Common.{◌≡◌, ◌∙◌, ◌%◌, ◌^◌, ◌<◌, ◌≤◌, ℕ, zero, suc, Bool, List, [], ◌∷◌, ap, arith, cond, get_or, length, map, not, refl, true}
+use Rattle.std.proofs.Common.{◌≡◌, ◌∙◌, ◌%◌, ◌^◌, ◌<◌, ◌≤◌, ℕ, suc, Bool, List, [], ◌∷◌, ap, arith, get_or, length, map, not, refl, true}
 use Rattle.std.specs.List.{prefix_len}
 use Rattle.std.specs.Simd.Lanes.{mask_l, top}
 use Rattle.std.proofs.lemmas.Bool.{agree_below, agree_below_at}
@@ -15,7 +15,7 @@ prefix-same p q (x ∷ xs) same =
     rw (first, prefix-same p q xs (λ k within. same (suc k) (omega arith))) refl
 
 -- the lowest bit in the mask of a vector that was computed lane by lane: where its top bit stands out just where the test fails
-pub lanes-in-front : (test : ℕ → Bool) (lane : ℕ → ℕ) (bytes lanes : List ℕ) (n : ℕ) → length bytes ≡ n → n ≤ 64 → ((k : ℕ) → get_or bytes k 0 < 256)
+pub lanes-in-front : (test : ℕ → Bool) (lane : ℕ → ℕ) (bytes lanes : List ℕ) (n : ℕ) → length bytes ≡ n → n ≤ 64 → ((k : ℕ) → k < length bytes → get_or bytes k 0 < 256)
     → lanes ≡ map lane bytes → agree_below (λ x. not (top 7 (lane x))) test 256 ≡ true
     → first_set (mask_l (map (top 7) lanes) % 2 ^ 64) n ≡ prefix_len test bytes
 lanes-in-front test lane bytes lanes n long few fits is agree =
@@ -23,4 +23,4 @@ lanes-in-front test lane bytes lanes n long few fits is agree =
     let mask : mask_l (map (top 7) lanes) % 2 ^ 64 ≡ mask_l (map stops bytes) =
         ap (λ l. mask_l l % 2 ^ 64) (ap (map (top 7)) is ∙ map-map (top 7) lane bytes) ∙ mask_l-mod (map stops bytes) 64 (omega (arith, length-map bytes stops, long)) in
     ap (λ m. first_set m n) mask ∙ first_set_mask_l stops bytes n long few
-    ∙ prefix-same (λ x. not (stops x)) test bytes (λ k within. agree_below_at (λ x. not (stops x)) test 256 (get_or bytes k 0) agree (fits k))
+    ∙ prefix-same (λ x. not (stops x)) test bytes (λ k within. agree_below_at (λ x. not (stops x)) test 256 (get_or bytes k 0) agree (fits k within))

@@ -13,6 +13,7 @@ pub mod Next
 pub mod Only
 pub mod Padding
 pub mod Placing
+pub mod PlainLines
 pub mod Reading
 pub mod Records
 pub mod Shown

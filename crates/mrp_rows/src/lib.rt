@@ -15,6 +15,7 @@ mod join;
 mod masks;
 mod name;
 mod only;
+mod plain_lines;
 mod record;
 pub mod record_laws;
 mod records;

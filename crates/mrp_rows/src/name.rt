@@ -138,7 +138,9 @@ fn is_printable_text(text: &[u8], block: &[u8; LONGEST_NAME]) -> bool
     printable_front(block) == text.len()
 }
 
-// How many bytes of a block stand in front of the first that is not printable.
+// How many bytes of a block stand in front of the first that is not printable. It is not inlined: a block that becomes a name's would be
+// loaded byte by byte.
+#[inline(never)]
 fn printable_front(block: &[u8; LONGEST_NAME]) -> usize
     ensures { result ≡ prefix_len is_printable block.now }
 {

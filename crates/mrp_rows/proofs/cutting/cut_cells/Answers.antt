@@ -1,7 +1,7 @@
 use Rattle.std.proofs.Common.{ℕ, arith, ap, length, refl}
 use Rattle.std.proofs.lemmas.List.{nil_from_length, length-drop}
 use Rattle.mrp_rows.proofs.RecordCuts.{cell-next, inside-next, record-ends, text-ends}
-use Rattle.mrp_rows.proofs.cutting.cut_record.Goals as goal
+use Rattle.mrp_rows.proofs.cutting.cut_cells.Goals as goal
 
 pub returns-in_default : goal.returns-in_default
 returns-in_default c =

@@ -1,6 +1,6 @@
 use Rattle.std.proofs.Common.{◌≡◌, ◌+◌, ◌≤◌, [], length}
 use Rattle.mrp_rows.specs.Cutting.{IsInside}
-use Rattle.mrp_rows.proofs.cutting.cut_record.Given as goal
+use Rattle.mrp_rows.proofs.cutting.cut_cells.Given as goal
 
 abbrev pub invariant-loop-behind : goal.invariant-loop-behind
 invariant-loop-behind l = record {
