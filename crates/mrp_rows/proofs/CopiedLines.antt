@@ -1,5 +1,5 @@
 -- What is held of a line that was copied.
-use Rattle.std.proofs.Common.{◌≡◌, ◌∙◌, ◌≤◌, ℕ, true, All, List, [], Option, Some, None, Result, Ok, Err, IfOk, ap, arith, drop, length, length-take-le, map, refl, subst, sym, take}
+use Rattle.std.proofs.Common.{◌≡◌, ◌∙◌, ℕ, true, All, List, Option, Some, None, Result, Ok, Err, IfOk, ap, arith, drop, length, length-take-le, map, refl, subst, sym, take}
 use Rattle.std.proofs.lemmas.List.{length-map}
 use Rattle.csv.specs.declared.parser.State.TheVariants as st
 use Rattle.mrp_qty.specs.declared.memory.NoMemory.{NoMemory}

@@ -1,4 +1,4 @@
-use Rattle.std.proofs.Common.{◌+◌, ◌<◌, ◌≤◌, [], arith, length, refl}
+use Rattle.std.proofs.Common.{◌+◌, ◌<◌, [], arith, length, refl}
 use Rattle.mrp_rows.proofs.HeldCells.{none-within, within-more, within-next}
 use Rattle.mrp_rows.proofs.PlainCells.{plain-comma, plain-ends, plain-next, stop-ends}
 use Rattle.mrp_rows.proofs.RecordCuts.{inside-first}
