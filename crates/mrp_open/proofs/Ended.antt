@@ -1,56 +1,44 @@
 -- How an order desk on a folder ends.
-use Rattle.std.proofs.Common.{◌≡◌, ◌⊎◌, ◌∙◌, ℕ, true, List, Option, Result, Ok, Err, inl, inr, length, subst, sym}
-use Rattle.std.specs.Prelude.{IfErr, IfOk, IsErrAnd, IsTrue, string_bytes}
+use Rattle.std.proofs.Common.{◌≡◌, ◌⊎◌, ◌∙◌, ℕ, true, List, Option, None, Some, Result, Ok, Err, inl, inr, length, refl, subst, sym}
+use Rattle.std.specs.Prelude.{IfErr, IfOk, IfSome, IsErrAnd, IsTrue, OnOk, string_bytes}
 use Rattle.std.specs.declared.fs.File.{File}
 use Rattle.mrp_rows.specs.Told.{HasRisenBy}
 use Rattle.mrp_rows.specs.declared.told.Told.{Told}
 use Rattle.mrp_journal.specs.File.{failures_told}
+use Rattle.mrp_journal.specs.Held.{Held, IsSettled}
 use Rattle.mrp_journal.specs.declared.file.JournalFile.{JournalFile}
 use Rattle.mrp_tables.specs.Tables.{Tables}
 use Rattle.mrp_script.specs.Script.{script_of}
 use Rattle.mrp_words.specs.Folder.{Known}
-use Rattle.mrp_calls.specs.Desk.{Desk}
 use Rattle.mrp_commands.specs.declared.ending.Ending.{Ending}
 use Rattle.mrp_commands.specs.declared.ending.Ending.TheVariants as ending
-use Rattle.mrp_open.specs.Ends.{FailsToBegin, FailsToStart, FailsWithLock, IsServed, IsUnbegun, ServesOn, TellsEnd, cut_of}
+use Rattle.mrp_open.specs.Ends.{FailsToBegin, FailsToBeginOn, FailsToStart, FailsWithLock, IsServed, IsUnbegun, ServesPrepared, begun_held}
 use Rattle.mrp_open.specs.Opening.{FailsToWrite, HasFailed, IsFailing, IsUntouched, Opening}
-use Rattle.mrp_open.specs.Served.{FailsToRead}
-use Rattle.mrp_open.specs.Start.{AnswersJournal, AreUnchanged, FailsToOpen, HasOtherSum, IsPrepared}
+use Rattle.mrp_open.specs.Start.{FailsToOpen, HasOtherSum, IsPrepared}
 use Rattle.mrp_open.specs.declared.finding.Found.{Found}
 
 module _ {R W E : Type 0} (opened : Opening) (known : Known) (folder : List ℕ) (remaining : R → Option (List ℕ)) (contents : W → Option (List ℕ)) (heard : E → Option (List ℕ)) (input read : Told R) (output written : Told W) (errors told : Told E) where
-  -- a desk that was opened has answered lines, and told its cut and its end
-  pub is-served : (found : Found) (tables : Tables) (old : Desk) (cut : Option ℕ) (r : Result Ending Ending) → opened.is_held ≡ true → opened.is_lasting ≡ true
-      → IsPrepared known folder found tables → IsTrue found.takes_records → AnswersJournal tables found.room old → AreUnchanged known folder (length old.entries) (string_bytes found.sum) → cut ≡ cut_of found (length old.entries)
-      → IfOk r (λ end. (new : Desk) × ServesOn known folder remaining contents input output written old new end) → IfOk r (TellsEnd heard errors told cut)
-      → IfOk r (λ end. end ≡ ending.Read → FailsToRead input read) → IfOk r (IsServed opened known folder remaining contents heard input read output written errors told)
-  is-served found tables old cut (Err end) held lasting prepared takes answers unchanged is serves tells fails = tt
-  is-served found tables old cut (Ok end) held lasting prepared takes answers unchanged is (new, serves) tells fails = record {
-    held = held;
-    lasting = lasting;
-    found = found;
-    tables = tables;
-    old = old;
-    new = new;
-    prepared = prepared;
-    takes = takes;
-    answers = answers;
-    unchanged = unchanged;
-    serves = serves;
-    fails = fails;
-    tells = subst (λ (c : Option ℕ). TellsEnd heard errors told c end) is tells;
-  }
+  -- a desk that was opened has answered lines
+  pub is-served : (found : Found) (tables : Tables) (r : Result Ending Ending) → opened.is_held ≡ true → OnOk r (opened.is_lasting ≡ true) → IsPrepared known folder found tables
+      → IfOk r (ServesPrepared known folder found tables None remaining contents heard input read output written errors told None None)
+      → IfOk r (IsServed opened known folder remaining contents heard input read output written errors told)
+  is-served found tables (Err end) held lasting prepared serves = tt
+  is-served found tables (Ok end) held lasting prepared serves = record { held = held; lasting = lasting; found = found; tables = tables; prepared = prepared; serves = serves }
+
+-- a journal that is begun is durable, as far as its file was known
+is-settled : (found : Found) (left : Option Held) → IfSome (begun_held found left) IsSettled
+is-settled found None = tt
+is-settled found (Some held) = refl
+
+-- so is one of which the same is known
+pub begun-settled : (found : Found) (left journal : Option Held) → journal ≡ begun_held found left → IfSome journal IsSettled
+begun-settled found left journal is = subst (λ (h : Option Held). IfSome h IsSettled) (sym is) (is-settled found left)
 
 -- a journal that was not opened before a folder was locked
 pub untouched-since : (first before opened : Opening) (r : Result Ending Ending) → before.is_opened ≡ first.is_opened → IfErr r (IsUntouched before opened) → IfErr r (IsUntouched first opened)
 untouched-since first before opened (Ok end) same is = tt
-untouched-since first before opened (Err end) same (inl touching) = inl touching
+untouched-since first before opened (Err end) same (inl is) = inl is
 untouched-since first before opened (Err end) same (inr is) = inr (is ∙ same)
-
--- one without memory
-pub no-memory-touching : (before opened : Opening) (r : Result Ending Ending) → IfErr r (λ end. end ≡ ending.NoMemory) → IfErr r (IsUntouched before opened)
-no-memory-touching before opened (Ok end) is = tt
-no-memory-touching before opened (Err end) is = inl (inl is)
 
 -- one that started from the same opening, or from one since which nothing was opened
 pub starts-since : (known : Known) (folder : List ℕ) (first before opened : Opening) (r : Result Ending Ending) → before ≡ first → IfErr r (FailsToStart before opened known folder) → IfErr r (FailsToStart first opened known folder)
@@ -84,18 +72,13 @@ module _ (known : Known) (folder : List ℕ) where
     not-opened end held fails = record { held = held; fails = inl fails }
 
     -- one that did not begin
-    pub not-begun : (found : Found) (tables : Tables) (end : Ending) → opened.is_held ≡ true → IsPrepared known folder found tables
-        → FailsToBegin known folder found tables (FailsToWrite (λ (file : JournalFile File). failures_told file) before opened) end → FailsWithLock before opened known folder end
-    not-begun found tables end held prepared fails = record { held = held; fails = inr (found, tables, prepared, fails) }
-
-    -- one without memory
-    pub no-memory : (r : Result Ending Ending) → opened.is_held ≡ true → IfErr r (λ end. end ≡ ending.NoMemory) → IfErr r (FailsWithLock before opened known folder)
-    no-memory (Ok end) held is = tt
-    no-memory (Err end) held is = record { held = held; fails = inl (inr (inr is)) }
+    pub not-begun : (found : Found) (tables : Tables) (r : Result Ending Ending) → opened.is_held ≡ true → IsPrepared known folder found tables
+        → IfErr r (FailsToBeginOn before opened known folder found tables) → IfErr r (FailsWithLock before opened known folder)
+    not-begun found tables (Ok end) held prepared fails = tt
+    not-begun found tables (Err end) held prepared fails = record { held = held; fails = inr (found, tables, prepared, fails) }
 
     -- why, since nothing has failed
-    fails-since : (first : Opening) (end : Ending) → before.failures ≡ first.failures → FailsToOpen known folder end ⊎ IsUnbegun known folder (FailsToWrite (λ (file : JournalFile File). failures_told file) before opened) end
-        → FailsToOpen known folder end ⊎ IsUnbegun known folder (FailsToWrite (λ (file : JournalFile File). failures_told file) first opened) end
+    fails-since : (first : Opening) (end : Ending) → before.failures ≡ first.failures → FailsToOpen known folder end ⊎ IsUnbegun before opened known folder end → FailsToOpen known folder end ⊎ IsUnbegun first opened known folder end
     fails-since first end same (inl unopened) = inl unopened
     fails-since first end same (inr (found, tables, prepared, begins)) =
         let failures = λ (file : JournalFile File). failures_told file in

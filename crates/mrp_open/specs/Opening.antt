@@ -1,6 +1,7 @@
 -- What the calls of the folder that an order desk is opened on have come to (profile).
-use Rattle.std.specs.Prelude.{ℕ, ◌≡◌, ◌⊎◌, Bool, true, false}
+use Rattle.std.specs.Prelude.{ℕ, ◌≡◌, ◌⊎◌, Bool, true, false, Option}
 use Rattle.mrp_rows.specs.Told.{HasRisenBy}
+use Rattle.mrp_journal.specs.Held.{Held}
 use Rattle.mrp_commands.specs.declared.ending.Ending.{Ending}
 use Rattle.mrp_commands.specs.declared.ending.Ending.TheVariants as ending
 
@@ -47,10 +48,10 @@ IsFailing {S} failures = (old new : S) × HasRisenBy 1 (failures old) (failures 
 abbrev pub FailsToWrite : {S : Type 0} → (S → ℕ) → Opening → Opening → Type 0
 FailsToWrite failures old new = HasRisenBy 1 old.failures new.failures ⊎ IsFailing failures
 
--- an end before which a journal may have been opened
-abbrev pub IsTouching : Ending → Type 0
-IsTouching end = (end ≡ ending.NoMemory) ⊎ (end ≡ ending.Write)
-
--- where it ends otherwise, no journal was opened
+-- where it ends otherwise than by a failed write, no journal was opened
 abbrev pub IsUntouched : Opening → Opening → Ending → Type 0
-IsUntouched before opened end = IsTouching end ⊎ (opened.is_opened ≡ before.is_opened)
+IsUntouched before opened end = (end ≡ ending.Write) ⊎ (opened.is_opened ≡ before.is_opened)
+
+-- and the journal's file is as it was, as far as it is known
+abbrev pub IsUnwritten : Option Held → Option Held → Ending → Type 0
+IsUnwritten before left end = (end ≡ ending.Write) ⊎ (left ≡ before)

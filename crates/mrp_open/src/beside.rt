@@ -1,45 +1,43 @@
 //! An order desk, from its start to its end, with a thread that makes the files of its runs.
 
-ghost use Rattle.std.specs.Prelude.{◌≡◌, ◌⊎◌, None, false, true, IfErr, IfOk, IfSome, IsTrue, OnErr, OnOk, Some, codes, length, option_map, string_bytes};
+ghost use Rattle.std.specs.Prelude.{◌≡◌, None, true, IfErr, IfOk, IfSome, OnErr, OnOk, codes};
 ghost use Rattle.std.specs.Int.{IsInRange};
 ghost use Rattle.std.specs.List.{All};
 ghost use Rattle.std.specs.Path.{path_join};
 ghost use Rattle.mrp_rows.specs.Told.{inner_of};
-ghost use Rattle.mrp_journal.specs.Held.{IsSettled, settled};
-ghost use Rattle.mrp_journal.specs.Journal.{IsFound, begun as text_begun};
+ghost use Rattle.mrp_journal.specs.Held.{IsSettled};
+ghost use Rattle.mrp_journal.specs.Journal.{IsFound};
 ghost use Rattle.mrp_folder.specs.Disk.{part_of, path_of as folder_path};
-ghost use Rattle.mrp_folder.specs.Sealed.{folder_of, has_seal, journal_of, name_of, text_of};
 ghost use Rattle.mrp_engine.specs.declared.day.run.TheConstants.{MOST_WORKERS};
-ghost use Rattle.mrp_words.specs.Folder.{IsAt, IsThere, nothing_known};
-ghost use Rattle.mrp_calls.specs.Desk.{Desk};
+ghost use Rattle.mrp_words.specs.Folder.{IsThere};
 ghost use Rattle.mrp_commands.specs.Telling.{words_of};
 ghost use Rattle.mrp_commands.specs.declared.ending.Ending.TheVariants as ending;
 ghost use Rattle.mrp_book.specs.declared.reply.Reply.TheVariants as reply;
 ghost use Rattle.mrp_runs.specs.File.{IsRun, run_name};
 ghost use Rattle.mrp_runs.specs.declared.run.Run.{Run};
 ghost use Rattle.mrp_open.specs.Disk.{opening_of, path_of};
-ghost use Rattle.mrp_open.specs.Ends.{DeskEnds, FailsToBegin, FailsToStart, FailsWithLock, IsServed, IsTold, ServesOn, TellsEnd, cut_of};
+ghost use Rattle.mrp_open.specs.Ends.{DeskEnds, FailsToBegin, FailsToBeginOn, FailsToStart, FailsWithLock, IsServed, IsTold, ServesPrepared};
 ghost use Rattle.mrp_open.specs.Made.{MakesAll};
-ghost use Rattle.mrp_open.specs.Opening.{FailsToWrite, IsUntouched};
+ghost use Rattle.mrp_open.specs.Opening.{FailsToWrite, IsUntouched, IsUnwritten};
 ghost use Rattle.mrp_open.specs.Runs.{HandsAllMissing, HandsMissing, HasFile, IsRunOf};
 ghost use Rattle.mrp_open.specs.Served.{FailsToRead, FailsToSettle, MakesUp};
-ghost use Rattle.mrp_open.specs.Start.{AnswersJournal, AreUnchanged, sum_path};
 
 use crate::batches::{RunTaker, hand_run, serve};
+use crate::beginning::{BegunDesk, begin_desk};
 use crate::disk::{DeskFolder, LockFault, has_file};
 use crate::handing::{Given, RunKind, RunReceiver, RunSender, RunSource, make_all};
 use crate::notes::Notes;
-use crate::opening::{begin_journal, cut_number, tell_cut};
+use crate::opening::tell_cut;
 use crate::place::JournalPlace;
-use crate::start::{Prepared, SUM_NAME, answer_journal, is_sealed, prepare};
+use crate::start::{Prepared, prepare};
 use crate::whole_lines::WholeLines;
 use crossbeam_channel::unbounded;
 use mrp_book::{Call, Entry, Reply, Snapshot};
 use mrp_calls::OpenDesk;
 use mrp_commands::Ending;
 use mrp_engine::MOST_WORKERS;
-use mrp_folder::{DiskFolder, Folder, SealedJournal};
-use mrp_journal::{JournalFile, Store};
+use mrp_folder::{DiskFolder, Folder};
+use mrp_journal::Store;
 use mrp_qty::NoMemory;
 use mrp_rows::Told;
 use mrp_runs::{RunMaker, run_name};
@@ -52,9 +50,6 @@ use std::rt::Files;
 use std::sync::Wait;
 use std::thread;
 use std::thread::Threads;
-
-// The name that the file of the sum is begun with.
-const SUM_PART: &str = "desk.part";
 
 // The name that a run's file is begun with.
 const RUN_PART: &str = "run.part";
@@ -127,78 +122,6 @@ pub fn hand_over_missing<F: FileStore, T: RunTaker>(
     for entry in entries {
         hand_missing(files, alloc, folder, entry, taker);
     }
-}
-
-// An order desk whose journal was begun.
-struct Begun<'a, R, S> {
-    desk: OpenDesk<'a>,
-    journal: SealedJournal<'a, S, DiskFolder<'a, R>>,
-    maker: RunMaker<'a>,
-    // The record that half a line would have been that was cut off.
-    cut: Option<u64>,
-    folder: &'a str,
-}
-
-// The maker of a shop's runs.
-fn maker_of<'a>(
-    alloc: Global,
-    prepared: &'a Prepared,
-    workers: usize,
-) -> Result<RunMaker<'a>, Ending>
-    requires { IsInRange 1 MOST_WORKERS workers }
-    ensures maker { IfOk result (λ maker. maker ≡ prepared.now.rows.value.tables) }
-    ensures memory { IfErr result (λ end. end ≡ ending.NoMemory) }
-{
-    match RunMaker::of(alloc, &prepared.rows, workers) {
-        Ok(maker) => Ok(maker),
-        Err(NoMemory) => Err(Ending::NoMemory),
-    }
-}
-
-// Begins the desk of a folder that was prepared. The text of its sum stands there before the first record.
-fn begin<'a, F: FileStore, R: Files, P: JournalPlace>(
-    files: &F,
-    rt: &'a R,
-    alloc: Global,
-    folder: &'a str,
-    place: &mut P,
-    prepared: &'a Prepared,
-    workers: usize,
-) -> Result<Begun<'a, R, P::Journal>, Ending>
-    requires workers { IsInRange 1 MOST_WORKERS workers }
-    requires left { IfSome (P.left place.old) (IsFound prepared.now.found.script.items) }
-    ensures desk { IfOk result (λ begun. AnswersJournal prepared.now.rows.value.tables prepared.now.found.room begun.desk) }
-    ensures maker { IfOk result (λ begun. begun.maker ≡ prepared.now.rows.value.tables) }
-    ensures takes { OnOk result (IsTrue prepared.now.found.takes_records) }
-    ensures cut { IfOk result (λ begun. begun.cut ≡ cut_of prepared.now.found (length begun.desk.entries)) }
-    ensures at { IfOk result (λ begun. begun.folder.now ≡ folder.now) }
-    ensures sum { IfOk result (λ begun. text_of begun.journal ≡ string_bytes prepared.now.found.sum) }
-    ensures name { IfOk result (λ begun. name_of begun.journal ≡ codes "desk.tables") }
-    ensures folder { IfOk result (λ begun. folder_path (folder_of begun.journal) ≡ folder.now) }
-    ensures part { IfOk result (λ begun. part_of (folder_of begun.journal) ≡ codes "desk.part") }
-    ensures begun { IfOk result (λ begun. P.Journal.held (journal_of begun.journal) ≡ option_map (λ _. settled (text_begun prepared.now.found.script.items prepared.now.found.header.now)) (P.left place.old)) }
-    ensures lasts { OnOk result ((P.opening place.new).is_lasting ≡ true) }
-    ensures held { (P.opening place.new).is_held ≡ (P.opening place.old).is_held }
-    ensures sealed { IfOk result (λ begun. has_seal begun.journal ≡ true → IsAt (F.known files.now) (sum_path folder.now) (Some (string_bytes prepared.now.found.sum))) }
-    ensures unsealed { IfOk result (λ begun. has_seal begun.journal ≡ false → (length begun.desk.entries ≡ 0) ⊎ IsAt (F.known files.now) (sum_path folder.now) None) }
-    ensures unchanged { IfOk result (λ begun. AreUnchanged (F.known files.now) folder.now (length begun.desk.entries) (string_bytes prepared.now.found.sum)) }
-    ensures untouched { IfErr result (IsUntouched (P.opening place.old) (P.opening place.new)) }
-    ensures unbegun { IfErr result (FailsToBegin (F.known files.now) folder.now prepared.now.found prepared.now.rows.value.tables (FailsToWrite P.Journal.failures (P.opening place.old) (P.opening place.new))) }
-{
-    let desk = answer_journal(alloc, prepared)?;
-    let records = desk.entries().len();
-    let sealed = is_sealed(files, alloc, folder, records, &prepared.found.sum)?;
-    let maker = maker_of(alloc, prepared, workers)?;
-    let journal = begin_journal(place, &prepared.found)?;
-    let sums = DiskFolder::new(rt, alloc, folder, SUM_PART);
-    let text = prepared.found.sum.as_bytes();
-    Ok(Begun {
-        desk,
-        journal: SealedJournal::new(journal, sums, text, SUM_NAME, sealed),
-        maker,
-        cut: cut_number(&prepared.found, records),
-        folder,
-    })
 }
 
 // Hands over the runs of the journal whose files are not there, and answers calls until the input ends or something
@@ -309,10 +232,86 @@ fn run_folder<'a, R>(rt: &'a R, alloc: Global, folder: &'a str) -> DiskFolder<'a
     DiskFolder::new(rt, alloc, folder, RUN_PART)
 }
 
-// Tells what was cut off, answers calls, and makes the files of runs beside that.
+/// Begins the desk of a folder that was prepared, tells what was cut off, hands over the runs of its journal whose
+/// files are not there, answers calls, and makes the files of runs beside that.
+///
+/// Errors: how the desk ends, where it answers nothing. Nothing was written or told then, unless a write of the journal
+/// has failed.
+pub fn serve_prepared<
+    G: RunSource + Send,
+    F: FileStore,
+    P: JournalPlace,
+    R: Alloc<A = Global> + Files + Threads + Wait + Sync,
+    D: Folder + Send,
+    N: Write + Send,
+    I: Read,
+    W: Write,
+    E: Write,
+    T: RunTaker,
+>(
+    rt: &R,
+    alloc: Global,
+    files: &F,
+    folder: &str,
+    place: &mut P,
+    prepared: &Prepared,
+    workers: usize,
+    from: &mut G,
+    into: &mut D,
+    notes: &mut Told<N>,
+    input: &mut Told<I>,
+    output: &mut Told<W>,
+    errors: &mut Told<E>,
+    taker: &mut T,
+) -> Result<Ending, Ending>
+where
+    D::Part: Send,
+    requires workers { IsInRange 1 MOST_WORKERS workers }
+    requires left { IfSome (P.left place.old) (IsFound prepared.now.found.script.items) }
+    requires given { (run : Run) → G.gives run → IsRun prepared.now.rows.value.tables run }
+    requires taken { (run : Run) → IsRun prepared.now.rows.value.tables run → T.takes run }
+    ensures served { IfOk result (ServesPrepared (F.known files.now) folder.now prepared.now.found prepared.now.rows.value.tables (P.left place.old) I.remaining W.contents E.contents
+        input.old input.new output.old output.new errors.old errors.new (T.told taker.old) (T.told taker.new)) }
+    ensures lasts { OnOk result ((P.opening place.new).is_lasting ≡ true) }
+    ensures held { (P.opening place.new).is_held ≡ (P.opening place.old).is_held }
+    ensures closed { OnOk result (T.closed taker.new ≡ true) }
+    ensures made { OnOk result (MakesAll D.Part N.contents prepared.now.rows.value.tables (G.left from.old) (D.failures into.old) (D.failures into.new) (D.named into.old) (D.named into.new) notes.old notes.new) }
+    ensures unbegun { IfErr result (FailsToBegin (F.known files.now) folder.now prepared.now.found prepared.now.rows.value.tables (FailsToWrite P.Journal.failures (P.opening place.old) (P.opening place.new))) }
+    ensures untouched { IfErr result (IsUntouched (P.opening place.old) (P.opening place.new)) }
+    ensures unwritten { IfErr result (IsUnwritten (P.left place.old) (P.left place.new)) }
+    ensures unmade { OnErr result ((D.named into.new ≡ D.named into.old) × (notes.new ≡ notes.old) × (T.told taker.new ≡ T.told taker.old)) }
+    ensures same { OnErr result ((input.new ≡ input.old) × (output.new ≡ output.old) × (errors.new ≡ errors.old)) }
+{
+    let begun = begin_desk(files, rt, alloc, folder, place, prepared, workers)?;
+    let BegunDesk {
+        mut desk,
+        mut journal,
+        mut maker,
+        cut,
+    } = begun;
+    tell_cut(cut, errors);
+    Ok(serve_and_make(
+        rt,
+        alloc,
+        files,
+        folder,
+        &mut maker,
+        from,
+        into,
+        notes,
+        &mut desk,
+        &mut journal,
+        input,
+        output,
+        errors,
+        taker,
+    ))
+}
+
+// Serves a folder of the operating system that was prepared. The files of runs are put into this one.
 //
-// Errors: `NoMemory` if there is no memory for handing runs over; nothing was told then.
-fn serve_beside<
+// Errors: how the desk ends, where it answers nothing; it is not told then.
+fn open_prepared<
     K: RunKind + Send,
     F: FileStore,
     R: Alloc<A = Global> + Eprint + Files<File = File> + Threads + Wait + Sync,
@@ -323,7 +322,10 @@ fn serve_beside<
     files: &F,
     rt: &R,
     alloc: Global,
-    begun: Begun<'_, R, JournalFile<File>>,
+    folder: &str,
+    place: &mut DeskFolder<'_, R>,
+    prepared: &Prepared,
+    workers: usize,
     mut into: DiskFolder<'_, R>,
     input: &mut Told<I>,
     output: &mut Told<W>,
@@ -331,46 +333,41 @@ fn serve_beside<
 ) -> Result<Ending, Ending>
 where
     R::Dir: Send,
-    requires given { (run : Run) → K.holds run → IsRun begun.maker run }
-    requires taken { (run : Run) → IsRun begun.desk.tables run → K.holds run }
-    requires at { folder_path into ≡ begun.folder.now }
+    requires workers { IsInRange 1 MOST_WORKERS workers }
+    requires given { (run : Run) → K.holds run → IsRun prepared.now.rows.value.tables run }
+    requires taken { (run : Run) → IsRun prepared.now.rows.value.tables run → K.holds run }
+    requires at { folder_path into ≡ folder.now }
     requires part { part_of into ≡ codes "run.part" }
-    ensures served { IfOk result (λ end. (new : Desk) × ServesOn (F.known files.now) begun.entry.folder.now I.remaining W.contents input.old output.old output.new begun.entry.desk new end) }
-    ensures told { IfOk result (TellsEnd E.contents errors.old errors.new begun.entry.cut) }
-    ensures read { IfOk result (λ end. end ≡ ending.Read → FailsToRead input.old input.new) }
-    ensures memory { IfErr result (λ end. end ≡ ending.NoMemory) }
+    ensures served { IfOk result (ServesPrepared (F.known files.now) folder.now prepared.now.found prepared.now.rows.value.tables None I.remaining W.contents E.contents
+        input.old input.new output.old output.new errors.old errors.new None None) }
+    ensures lasts { OnOk result ((opening_of place.new).is_lasting ≡ true) }
+    ensures held { (opening_of place.new).is_held ≡ (opening_of place.old).is_held }
+    ensures unbegun { IfErr result (FailsToBeginOn (opening_of place.old) (opening_of place.new) (F.known files.now) folder.now prepared.now.found prepared.now.rows.value.tables) }
+    ensures untouched { IfErr result (IsUntouched (opening_of place.old) (opening_of place.new)) }
     ensures same { OnErr result ((input.new ≡ input.old) × (output.new ≡ output.old) × (errors.new ≡ errors.old)) }
 {
-    let Begun {
-        mut desk,
-        mut journal,
-        mut maker,
-        cut,
-        folder,
-    } = begun;
     let Ok((to, from)) = unbounded::<Given<K>, Global>(alloc) else {
         return Err(Ending::NoMemory);
     };
     let mut taker = RunSender::new(rt, to);
     let mut source = RunReceiver::new(rt, from);
     let mut notes = Told::new(WholeLines::new(Notes { rt }));
-    tell_cut(cut, errors);
-    Ok(serve_and_make(
+    serve_prepared(
         rt,
         alloc,
         files,
         folder,
-        &mut maker,
+        place,
+        prepared,
+        workers,
         &mut source,
         &mut into,
         &mut notes,
-        &mut desk,
-        &mut journal,
         input,
         output,
         errors,
         &mut taker,
-    ))
+    )
 }
 
 // An order desk on a folder that was locked.
@@ -403,9 +400,10 @@ where
     ensures same { OnErr result ((input.new ≡ input.old) × (output.new ≡ output.old) × (errors.new ≡ errors.old)) }
 {
     let prepared = prepare(rt, alloc, files, folder)?;
-    let begun = begin(files, rt, alloc, folder, place, &prepared, workers)?;
     let into = run_folder(rt, alloc, folder);
-    serve_beside::<Brand, F, R, I, W, E>(files, rt, alloc, begun, into, input, output, errors)
+    open_prepared::<Brand, F, R, I, W, E>(
+        files, rt, alloc, folder, place, &prepared, workers, into, input, output, errors,
+    )
 }
 
 // An order desk on a folder, which is locked first.
@@ -482,13 +480,16 @@ where
 }
 
 /// Opens an order desk on a folder, answers the lines of an input until it ends, and returns how that ended, which
-/// was told on the error stream. It has 1 to 64 workers to plan runs, as the caller guarantees.
+/// was told on the error stream. It has 1 to 64 workers to plan runs, as the caller guarantees. What the folder has is
+/// read from these files.
 pub fn open_desk<
+    F: FileStore,
     R: Alloc<A = Global> + Eprint + Files<File = File> + Threads + Wait + Sync,
     I: Read,
     W: Write,
     E: Write,
 >(
+    files: &F,
     rt: &R,
     alloc: Global,
     place: &mut DeskFolder<'_, R>,
@@ -500,9 +501,9 @@ pub fn open_desk<
 where
     R::Dir: Send,
     requires { IsInRange 1 MOST_WORKERS workers }
-    ensures { DeskEnds (opening_of place.old) (opening_of place.new) nothing_known (path_of place.old) I.remaining W.contents E.contents input.old input.new output.old output.new errors.old errors.new result }
+    ensures { DeskEnds (opening_of place.old) (opening_of place.new) (F.known files.now) (path_of place.old) I.remaining W.contents E.contents input.old input.new output.old output.new errors.old errors.new result }
 {
-    match open_folder(rt, rt, alloc, place, workers, input, output, errors) {
+    match open_folder(files, rt, alloc, place, workers, input, output, errors) {
         Ok(end) => end,
         Err(end) => {
             let _ = end.tell(errors);

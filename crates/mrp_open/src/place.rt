@@ -1,6 +1,6 @@
 //! Where the journal of an order desk is opened.
 
-ghost use Rattle.std.specs.Prelude.{◌≡◌, Option, IfErr, IfOk, OnOk};
+ghost use Rattle.std.specs.Prelude.{◌≡◌, Option, IfErr, IfOk, OnErr, OnOk};
 ghost use Rattle.mrp_journal.specs.Held.{Held};
 ghost use Rattle.mrp_commands.specs.declared.ending.Ending.TheVariants as ending;
 ghost use Rattle.mrp_open.specs.Opening.{FailsToOpenJournal, HasFailed, Opening, lasting, with_journal};
@@ -25,6 +25,7 @@ pub trait JournalPlace {
     fn open_journal(&mut self) -> Result<Self::Journal, Ending>
         ensures left { IfOk result (λ journal. Self.Journal.held journal ≡ left self.old) }
         ensures opened { OnOk result (opening self.new ≡ with_journal (opening self.old)) }
+        ensures same { OnErr result (left self.new ≡ left self.old) }
         ensures failed { IfErr result (λ end. FailsToOpenJournal (opening self.old) (opening self.new) end) };
 
     /// Makes the names of its files durable.

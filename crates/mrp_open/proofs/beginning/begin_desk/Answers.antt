@@ -7,10 +7,10 @@ use Rattle.mrp_script.specs.Script.{script_of}
 use Rattle.mrp_open.specs.Ends.{FailsToBegin}
 use Rattle.mrp_words.specs.Folder.{IsAt}
 use Rattle.mrp_open.specs.Start.{HasOtherSum, sum_path}
-use Rattle.mrp_open.specs.Opening.{FailsToWrite}
+use Rattle.mrp_open.specs.Opening.{FailsToWrite, IsUntouched, IsUnwritten}
 use Rattle.mrp_open.proofs.Ended.{fails-to-write, other-sum, passed-on, unwritten}
 use Rattle.mrp_open.proofs.Starting.{as-many}
-use Rattle.mrp_open.proofs.beside.begin.Goals as goal
+use Rattle.mrp_open.proofs.beginning.begin_desk.Goals as goal
 
 pub returns-in_err-sealed-clause-unbegun : goal.returns-in_err-sealed-clause-unbegun
 returns-in_err-sealed-clause-unbegun g c =
@@ -36,7 +36,17 @@ returns-in_err-journal-clause-unbegun g c =
     passed-on c.from_residual-in_err-journal.result end (FailsToBegin known c.args.folder.now found tables failed) c.from_residual-in_err-journal.ensures.1
     (unwritten known c.args.folder.now found tables failed end c.in_ok-desk.ensures.takes c.in_err-journal.ensures.end (λ is. fails-to-write g.P.Journal.Store.failures old new (c.in_err-journal.ensures.write (ap Err is))))
 
+pub returns-in_err-journal-clause-untouched : goal.returns-in_err-journal-clause-untouched
+returns-in_err-journal-clause-untouched g c =
+    let opening = g.P.JournalPlace.opening in
+    passed-on c.from_residual-in_err-journal.result c.in_err-journal.field-0.0 (IsUntouched (opening c.args.place.now) (opening c.begin_journal.new.place)) c.from_residual-in_err-journal.ensures.1 c.in_err-journal.ensures.untouched
+
+pub returns-in_err-journal-clause-unwritten : goal.returns-in_err-journal-clause-unwritten
+returns-in_err-journal-clause-unwritten g c =
+    let left = g.P.JournalPlace.left in
+    passed-on c.from_residual-in_err-journal.result c.in_err-journal.field-0.0 (IsUnwritten (left c.args.place.now) (left c.begin_journal.new.place)) c.from_residual-in_err-journal.ensures.1 c.in_err-journal.ensures.unwritten
+
 pub returns-clause-unsealed : goal.returns-clause-unsealed
 returns-clause-unsealed g c is =
-    let none = c.in_ok-sealed.ensures.open (sym c.new.ensures.sealed ∙ is) in
+    let none = c.in_ok-sealed.ensures.open (sym c.seal_journal.ensures.sealed ∙ is) in
     subst (λ (n : ℕ). (n ≡ 0) ⊎ IsAt (g.F.FileStore.known c.args.files.now) (sum_path c.args.folder.now) None) (ap (length {A = Entry Call Reply}) c.entries-records.ensures.entries) none
