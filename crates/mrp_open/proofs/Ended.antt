@@ -1,18 +1,17 @@
 -- How an order desk on a folder ends.
-use Rattle.std.proofs.Common.{◌≡◌, ◌⊎◌, ◌∙◌, ℕ, true, List, Option, None, Some, Result, Ok, Err, inl, inr, length, refl, subst, sym}
-use Rattle.std.specs.Prelude.{IfErr, IfOk, IfSome, IsErrAnd, IsTrue, OnOk, string_bytes}
+use Rattle.std.proofs.Common.{◌≡◌, ◌⊎◌, ◌∙◌, ℕ, true, List, Option, Result, Ok, Err, inl, inr, length, subst, sym}
+use Rattle.std.specs.Prelude.{IfErr, IfOk, IsErrAnd, IsTrue, OnOk, string_bytes}
 use Rattle.std.specs.declared.fs.File.{File}
 use Rattle.mrp_rows.specs.Told.{HasRisenBy}
 use Rattle.mrp_rows.specs.declared.told.Told.{Told}
 use Rattle.mrp_journal.specs.File.{failures_told}
-use Rattle.mrp_journal.specs.Held.{Held, IsSettled}
 use Rattle.mrp_journal.specs.declared.file.JournalFile.{JournalFile}
 use Rattle.mrp_tables.specs.Tables.{Tables}
 use Rattle.mrp_script.specs.Script.{script_of}
 use Rattle.mrp_words.specs.Folder.{Known}
 use Rattle.mrp_commands.specs.declared.ending.Ending.{Ending}
 use Rattle.mrp_commands.specs.declared.ending.Ending.TheVariants as ending
-use Rattle.mrp_open.specs.Ends.{FailsToBegin, FailsToBeginOn, FailsToStart, FailsWithLock, IsServed, IsUnbegun, ServesPrepared, begun_held}
+use Rattle.mrp_open.specs.Ends.{FailsToBegin, FailsToBeginOn, FailsToStart, FailsWithLock, IsServed, IsUnbegun, ServesPrepared}
 use Rattle.mrp_open.specs.Opening.{FailsToWrite, HasFailed, IsFailing, IsUntouched, Opening}
 use Rattle.mrp_open.specs.Start.{FailsToOpen, HasOtherSum, IsPrepared}
 use Rattle.mrp_open.specs.declared.finding.Found.{Found}
@@ -20,19 +19,10 @@ use Rattle.mrp_open.specs.declared.finding.Found.{Found}
 module _ {R W E : Type 0} (opened : Opening) (known : Known) (folder : List ℕ) (remaining : R → Option (List ℕ)) (contents : W → Option (List ℕ)) (heard : E → Option (List ℕ)) (input read : Told R) (output written : Told W) (errors told : Told E) where
   -- a desk that was opened has answered lines
   pub is-served : (found : Found) (tables : Tables) (r : Result Ending Ending) → opened.is_held ≡ true → OnOk r (opened.is_lasting ≡ true) → IsPrepared known folder found tables
-      → IfOk r (ServesPrepared known folder found tables None remaining contents heard input read output written errors told None None)
+      → IfOk r (ServesPrepared known folder found tables remaining contents heard input read output written errors told)
       → IfOk r (IsServed opened known folder remaining contents heard input read output written errors told)
   is-served found tables (Err end) held lasting prepared serves = tt
   is-served found tables (Ok end) held lasting prepared serves = record { held = held; lasting = lasting; found = found; tables = tables; prepared = prepared; serves = serves }
-
--- a journal that is begun is durable, as far as its file was known
-is-settled : (found : Found) (left : Option Held) → IfSome (begun_held found left) IsSettled
-is-settled found None = tt
-is-settled found (Some held) = refl
-
--- so is one of which the same is known
-pub begun-settled : (found : Found) (left journal : Option Held) → journal ≡ begun_held found left → IfSome journal IsSettled
-begun-settled found left journal is = subst (λ (h : Option Held). IfSome h IsSettled) (sym is) (is-settled found left)
 
 -- a journal that was not opened before a folder was locked
 pub untouched-since : (first before opened : Opening) (r : Result Ending Ending) → before.is_opened ≡ first.is_opened → IfErr r (IsUntouched before opened) → IfErr r (IsUntouched first opened)

@@ -44,23 +44,25 @@ cut_of found records = cut_number found.script.items found.header.now records
 abbrev pub TellsEnd : {E : Type 0} → (E → Option (List ℕ)) → Told E → Told E → Option ℕ → Ending → Type 0
 TellsEnd contents old new cut end = TellsBoth contents old new (cut_text cut) (words_of end)
 
--- the calls of the journal of a folder that was prepared were answered, from unchanged tables, it was begun, the runs of it
--- without a file in the folder were handed over, and then lines of the input were answered
-pub record ServesPrepared {R W E : Type 0} (known : Known) (folder : List ℕ) (found : Found) (tables : Tables) (left : Option Held) (remaining : R → Option (List ℕ)) (contents : W → Option (List ℕ)) (heard : E → Option (List ℕ))
-    (input read : Told R) (output written : Told W) (errors told : Told E) (told_old told_new : Option (List ℕ)) (end : Ending) : Type 0 where
+-- the runs of the journal of a desk without a file in the folder are handed over, and then lines of an input are answered
+abbrev pub ServesBegun : Known → List ℕ → {R W : Type 0} → (R → Option (List ℕ)) → (W → Option (List ℕ)) → Told R → Told W → Told W → Desk → Option Held → Option (List ℕ) → Option (List ℕ) → Ending → Type 0
+ServesBegun known folder remaining contents input output written old held told_old told_new end =
+    (new : Desk) × (journal : Option Held) × MakesUp known folder (remaining (inner_of input)) (record { desk = old; journal = held; output = contents (inner_of output) })
+    (record { desk = new; journal = journal; output = contents (inner_of written) }) told_old told_new end
+
+-- the calls of the journal of a folder that was prepared were answered, from unchanged tables, and then lines of the input, by a
+-- desk whose journal and runs are the operating system's
+pub record ServesPrepared {R W E : Type 0} (known : Known) (folder : List ℕ) (found : Found) (tables : Tables) (remaining : R → Option (List ℕ)) (contents : W → Option (List ℕ)) (heard : E → Option (List ℕ))
+    (input read : Told R) (output written : Told W) (errors told : Told E) (end : Ending) : Type 0 where
   pub takes : IsTrue found.takes_records
   pub old : Desk
-  pub new : Desk
-  pub journal : Option Held
   pub answers : AnswersJournal tables found.room old
   pub unchanged : AreUnchanged known folder (length old.entries) (string_bytes found.sum)
-  pub serves : MakesUp known folder (remaining (inner_of input)) (record { desk = old; journal = begun_held found left; output = contents (inner_of output) })
-      (record { desk = new; journal = journal; output = contents (inner_of written) }) told_old told_new end
+  pub serves : ServesBegun known folder remaining contents input output written old None None None end
   pub fails : end ≡ ending.Read → FailsToRead input read
   pub tells : TellsEnd heard errors told (cut_of found (length old.entries)) end
 
--- a folder was locked, its shop was opened, its names are durable, and then lines of the input were answered, by a desk whose
--- journal and runs are the operating system's
+-- a folder was locked, its shop was opened, its names are durable, and then lines of the input were answered
 pub record IsServed {R W E : Type 0} (opened : Opening) (known : Known) (folder : List ℕ) (remaining : R → Option (List ℕ)) (contents : W → Option (List ℕ)) (heard : E → Option (List ℕ))
     (input read : Told R) (output written : Told W) (errors told : Told E) (end : Ending) : Type 0 where
   pub held : opened.is_held ≡ true
@@ -68,7 +70,7 @@ pub record IsServed {R W E : Type 0} (opened : Opening) (known : Known) (folder 
   pub found : Found
   pub tables : Tables
   pub prepared : IsPrepared known folder found tables
-  pub serves : ServesPrepared known folder found tables None remaining contents heard input read output written errors told None None end
+  pub serves : ServesPrepared known folder found tables remaining contents heard input read output written errors told end
 
 -- a folder is in use, as another desk has its lock; or it or a stream can't be opened, as a call failed
 abbrev pub IsBarred : Opening → Opening → Ending → Type 0

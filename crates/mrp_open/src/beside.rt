@@ -6,8 +6,8 @@ ghost use Rattle.std.specs.List.{All};
 ghost use Rattle.std.specs.Path.{path_join};
 ghost use Rattle.mrp_rows.specs.Told.{inner_of};
 ghost use Rattle.mrp_journal.specs.Held.{IsSettled};
-ghost use Rattle.mrp_journal.specs.Journal.{IsFound};
 ghost use Rattle.mrp_folder.specs.Disk.{part_of, path_of as folder_path};
+ghost use Rattle.mrp_folder.specs.Sealed.{journal_of};
 ghost use Rattle.mrp_engine.specs.declared.day.run.TheConstants.{MOST_WORKERS};
 ghost use Rattle.mrp_words.specs.Folder.{IsThere};
 ghost use Rattle.mrp_commands.specs.Telling.{words_of};
@@ -16,9 +16,9 @@ ghost use Rattle.mrp_book.specs.declared.reply.Reply.TheVariants as reply;
 ghost use Rattle.mrp_runs.specs.File.{IsRun, run_name};
 ghost use Rattle.mrp_runs.specs.declared.run.Run.{Run};
 ghost use Rattle.mrp_open.specs.Disk.{opening_of, path_of};
-ghost use Rattle.mrp_open.specs.Ends.{DeskEnds, FailsToBegin, FailsToBeginOn, FailsToStart, FailsWithLock, IsServed, IsTold, ServesPrepared};
+ghost use Rattle.mrp_open.specs.Ends.{DeskEnds, FailsToBeginOn, FailsToStart, FailsWithLock, IsServed, IsTold, ServesBegun, ServesPrepared, TellsEnd};
 ghost use Rattle.mrp_open.specs.Made.{MakesAll};
-ghost use Rattle.mrp_open.specs.Opening.{FailsToWrite, IsUntouched, IsUnwritten};
+ghost use Rattle.mrp_open.specs.Opening.{IsUntouched};
 ghost use Rattle.mrp_open.specs.Runs.{HandsAllMissing, HandsMissing, HasFile, IsRunOf};
 ghost use Rattle.mrp_open.specs.Served.{FailsToRead, FailsToSettle, MakesUp};
 
@@ -28,7 +28,6 @@ use crate::disk::{DeskFolder, LockFault, has_file};
 use crate::handing::{Given, RunKind, RunReceiver, RunSender, RunSource, make_all};
 use crate::notes::Notes;
 use crate::opening::tell_cut;
-use crate::place::JournalPlace;
 use crate::start::{Prepared, prepare};
 use crate::whole_lines::WholeLines;
 use crossbeam_channel::unbounded;
@@ -232,15 +231,12 @@ fn run_folder<'a, R>(rt: &'a R, alloc: Global, folder: &'a str) -> DiskFolder<'a
     DiskFolder::new(rt, alloc, folder, RUN_PART)
 }
 
-/// Begins the desk of a folder that was prepared, tells what was cut off, hands over the runs of its journal whose
-/// files are not there, answers calls, and makes the files of runs beside that.
-///
-/// Errors: how the desk ends, where it answers nothing. Nothing was written or told then, unless a write of the journal
-/// has failed.
-pub fn serve_prepared<
+/// Tells what was cut off from the journal of a desk that was begun, hands over its runs whose files are not there,
+/// answers calls, and makes the files of runs beside that.
+pub fn serve_begun<
     G: RunSource + Send,
     F: FileStore,
-    P: JournalPlace,
+    S: Store + Drop,
     R: Alloc<A = Global> + Files + Threads + Wait + Sync,
     D: Folder + Send,
     N: Write + Send,
@@ -253,9 +249,7 @@ pub fn serve_prepared<
     alloc: Global,
     files: &F,
     folder: &str,
-    place: &mut P,
-    prepared: &Prepared,
-    workers: usize,
+    begun: BegunDesk<'_, R, S>,
     from: &mut G,
     into: &mut D,
     notes: &mut Told<N>,
@@ -263,26 +257,18 @@ pub fn serve_prepared<
     output: &mut Told<W>,
     errors: &mut Told<E>,
     taker: &mut T,
-) -> Result<Ending, Ending>
+) -> Ending
 where
     D::Part: Send,
-    requires workers { IsInRange 1 MOST_WORKERS workers }
-    requires left { IfSome (P.left place.old) (IsFound prepared.now.found.script.items) }
-    requires given { (run : Run) → G.gives run → IsRun prepared.now.rows.value.tables run }
-    requires taken { (run : Run) → IsRun prepared.now.rows.value.tables run → T.takes run }
-    ensures served { IfOk result (ServesPrepared (F.known files.now) folder.now prepared.now.found prepared.now.rows.value.tables (P.left place.old) I.remaining W.contents E.contents
-        input.old input.new output.old output.new errors.old errors.new (T.told taker.old) (T.told taker.new)) }
-    ensures lasts { OnOk result ((P.opening place.new).is_lasting ≡ true) }
-    ensures held { (P.opening place.new).is_held ≡ (P.opening place.old).is_held }
-    ensures closed { OnOk result (T.closed taker.new ≡ true) }
-    ensures made { OnOk result (MakesAll D.Part N.contents prepared.now.rows.value.tables (G.left from.old) (D.failures into.old) (D.failures into.new) (D.named into.old) (D.named into.new) notes.old notes.new) }
-    ensures unbegun { IfErr result (FailsToBegin (F.known files.now) folder.now prepared.now.found prepared.now.rows.value.tables (FailsToWrite P.Journal.failures (P.opening place.old) (P.opening place.new))) }
-    ensures untouched { IfErr result (IsUntouched (P.opening place.old) (P.opening place.new)) }
-    ensures unwritten { IfErr result (IsUnwritten (P.left place.old) (P.left place.new)) }
-    ensures unmade { OnErr result ((D.named into.new ≡ D.named into.old) × (notes.new ≡ notes.old) × (T.told taker.new ≡ T.told taker.old)) }
-    ensures same { OnErr result ((input.new ≡ input.old) × (output.new ≡ output.old) × (errors.new ≡ errors.old)) }
+    requires given { (run : Run) → G.gives run → IsRun begun.maker run }
+    requires settled { IfSome (S.held (journal_of begun.journal)) IsSettled }
+    requires taken { (run : Run) → IsRun begun.desk.tables run → T.takes run }
+    ensures served { ServesBegun (F.known files.now) folder.now I.remaining W.contents input.old output.old output.new begun.entry.desk (S.held (journal_of begun.entry.journal)) (T.told taker.old) (T.told taker.new) result }
+    ensures told { TellsEnd E.contents errors.old errors.new begun.entry.cut result }
+    ensures read { result ≡ ending.Read → FailsToRead input.old input.new }
+    ensures closed { T.closed taker.new ≡ true }
+    ensures made { MakesAll D.Part N.contents begun.entry.maker (G.left from.old) (D.failures into.old) (D.failures into.new) (D.named into.old) (D.named into.new) notes.old notes.new }
 {
-    let begun = begin_desk(files, rt, alloc, folder, place, prepared, workers)?;
     let BegunDesk {
         mut desk,
         mut journal,
@@ -290,7 +276,7 @@ where
         cut,
     } = begun;
     tell_cut(cut, errors);
-    Ok(serve_and_make(
+    serve_and_make(
         rt,
         alloc,
         files,
@@ -305,7 +291,7 @@ where
         output,
         errors,
         taker,
-    ))
+    )
 }
 
 // Serves a folder of the operating system that was prepared. The files of runs are put into this one.
@@ -338,8 +324,8 @@ where
     requires taken { (run : Run) → IsRun prepared.now.rows.value.tables run → K.holds run }
     requires at { folder_path into ≡ folder.now }
     requires part { part_of into ≡ codes "run.part" }
-    ensures served { IfOk result (ServesPrepared (F.known files.now) folder.now prepared.now.found prepared.now.rows.value.tables None I.remaining W.contents E.contents
-        input.old input.new output.old output.new errors.old errors.new None None) }
+    ensures served { IfOk result (ServesPrepared (F.known files.now) folder.now prepared.now.found prepared.now.rows.value.tables I.remaining W.contents E.contents
+        input.old input.new output.old output.new errors.old errors.new) }
     ensures lasts { OnOk result ((opening_of place.new).is_lasting ≡ true) }
     ensures held { (opening_of place.new).is_held ≡ (opening_of place.old).is_held }
     ensures unbegun { IfErr result (FailsToBeginOn (opening_of place.old) (opening_of place.new) (F.known files.now) folder.now prepared.now.found prepared.now.rows.value.tables) }
@@ -349,17 +335,16 @@ where
     let Ok((to, from)) = unbounded::<Given<K>, Global>(alloc) else {
         return Err(Ending::NoMemory);
     };
+    let begun = begin_desk(files, rt, alloc, folder, place, prepared, workers)?;
     let mut taker = RunSender::new(rt, to);
     let mut source = RunReceiver::new(rt, from);
     let mut notes = Told::new(WholeLines::new(Notes { rt }));
-    serve_prepared(
+    Ok(serve_begun(
         rt,
         alloc,
         files,
         folder,
-        place,
-        prepared,
-        workers,
+        begun,
         &mut source,
         &mut into,
         &mut notes,
@@ -367,7 +352,7 @@ where
         output,
         errors,
         &mut taker,
-    )
+    ))
 }
 
 // An order desk on a folder that was locked.

@@ -17,7 +17,7 @@ mod whole_lines;
 
 pub use batches::{RunTaker, hand_over, serve};
 pub use beginning::{BegunDesk, begin_desk};
-pub use beside::{hand_over_missing, open_desk, serve_prepared};
+pub use beside::{hand_over_missing, open_desk, serve_begun};
 pub use disk::{DeskFolder, LockFault};
 pub use finding::{Found, find};
 pub use handing::{RunKind, RunSource, make_all};
