@@ -2,6 +2,7 @@
 
 import concurrent.futures
 import errno
+import itertools
 import os
 import re
 import tempfile
@@ -72,6 +73,13 @@ def look_at_calls(calls):
             raise Wrong("a row is written before its record is synced")
 
 
+def look_at_start(calls, folder):
+    """The journal and the folder are synced before any other file is begun, and before anything is answered."""
+    start = itertools.takewhile(lambda it: it.name in (JOURNAL, folder), calls)
+    if {it.name for it in start if (it.what, it.gave) == ("sync", 0)} != {JOURNAL, folder}:
+        raise Wrong("a desk begins before its journal and its folder are synced")
+
+
 def look_at_sum(calls, folder, before):
     """The sum of the tables has its name, and that is synced, before the first record is appended."""
     names = [at for at, it in enumerate(calls) if (it.what, it.name) == ("rename", "desk.tables")]
@@ -87,6 +95,12 @@ def look_at_batches(calls, before):
     syncs = sum((it.what, it.name) == ("sync", JOURNAL) for it in calls)
     if appends > steps + (before is None) or syncs > steps + 1 + (before is None):
         raise Wrong(f"{steps} steps take {appends} appends and {syncs} syncs of the journal")
+
+
+def look_at_lacking(ledger):
+    """No run is told to lack memory: none was refused."""
+    if ledger.lacking:
+        raise Wrong(f"run {min(ledger.lacking)} is told to lack memory, where a call on files has failed")
 
 
 class Failing:
@@ -114,6 +128,7 @@ class Failing:
             lived, ledger, calls = self.run(f"{name} {at} {way}", before, call=at, many=many, fault=fault, half=half)
             goes_on = way == "takes half" and ("write", at) in [(it.what, it.number) for it in calls]
             look(lived, ledger, [WELL] if goes_on else [WELL, WRITE_FAILED])
+            look_at_lacking(ledger)
             look_again(self.program, ledger)
         except Wrong as wrong:
             return f"{name}, call {at} {way}: {wrong}"
@@ -128,6 +143,7 @@ def fail_calls(program, ways=tuple(WAYS), step=1):
         for name, before in BEFORE.items():
             lived, ledger, made = failing.run(f"{name} free", before)
             look(lived, ledger, [WELL])
+            look_at_start(made, os.path.basename(ledger.path))
             look_at_batches(made, before)
             look_at_sum(made, os.path.basename(ledger.path), before)
             count = max(it.number for it in made)

@@ -136,6 +136,17 @@ def look_beside(program, folder):
         raise Wrong(f"another desk ends with {found}")
 
 
+def look_at_run(desk, folder):
+    """A run's file is there while its desk goes on."""
+    answered(desk, b"1,run,,,,\n")
+    number = bytes(desk.out).splitlines()[-1].split(b",")[0].decode()
+    until = time.monotonic() + SECONDS / 2
+    while not os.path.exists(os.path.join(folder, f"run-{number}.day")):
+        if time.monotonic() > until:
+            raise Wrong(f"run {number} has no file while its desk goes on")
+        time.sleep(0.01)
+
+
 def try_lock(program):
     """Opens a desk, looks beside it, kills it, and opens another: what was done."""
     with tempfile.TemporaryDirectory(prefix="desk-lock-") as room:
@@ -145,5 +156,6 @@ def try_lock(program):
             desk = Desk([program, "desk", "--dir", ledger.path])
             answered(desk, b"1,book,BIKE,2025-01-20,1,\n")
             look_beside(program, ledger.path)
+            look_at_run(desk, ledger.path)
             desk.kill()
     return "3 desks, each killed and followed by the next"

@@ -200,29 +200,5 @@ class Transcript:
         return None
 
 
-MANUAL = os.path.join(TOP, "docs", "DESK.md")
-# A row of its transcript: what is typed, and what it answers.
-TYPED = re.compile(r"(?m)^\| `([^`]*,[^`]*)` \| `([^`]*)` \|$")
-
-
-@dataclass
-class Manual:
-    """The transcript of docs/DESK.md, at shops/bicycle without its script."""
-
-    name: str = "docs/DESK.md"
-
-    def fault(self, program):
-        """What is not as it must be, if anything is."""
-        with open(MANUAL, encoding="utf-8") as held:
-            rows = TYPED.findall(held.read())
-        typed, answers = ("".join(f"{row[place]}\n" for row in rows) for place in (0, 1))
-        life = {"tables": {JOURNAL: None}, "in": typed, "out": answers}
-        with tempfile.TemporaryDirectory() as room:
-            folder = os.path.join(room, "shop")
-            lay_tables(tables_of("bicycle"), folder)
-            faults = faults_of_life(program, life, folder) if rows else ["it has no transcript"]
-        return "\n  ".join(faults) or None
-
-
 def transcripts():
     return [Transcript(name.removesuffix(".desk")) for name in sorted(os.listdir(CASES)) if name.endswith(".desk")]

@@ -115,6 +115,19 @@ class Orders(unittest.TestCase):
         for calls in ([write, name], [write, sync, write, name], [write, failed.Told("sync", 2, -5, "run.part"), name]):
             self.assertRaises(Wrong, failed.look_at_names, calls)
 
+    def test_a_run_without_a_file_does_not_lack_memory(self):
+        ledger = Ledger.__new__(Ledger)
+        ledger.lacking = set()
+        failed.look_at_lacking(ledger)
+        ledger.lacking = {7}
+        self.assertRaises(Wrong, failed.look_at_lacking, ledger)
+
+    def test_a_start_is_synced_before_all_else(self):
+        journal, folder, other = failed.Told("sync", 1, 0, JOURNAL), failed.Told("sync", 2, 0, "shop"), failed.Told("make", 3, 9, "desk.part")
+        failed.look_at_start([journal, folder, other], "shop")
+        for calls in ([journal, other, folder], [folder, other], [journal, failed.Told("sync", 2, -5, "shop"), other]):
+            self.assertRaises(Wrong, failed.look_at_start, calls, "shop")
+
     def test_the_sum_comes_before_the_first_record(self):
         header, record = failed.Told("write", 1, 36, JOURNAL), failed.Told("write", 4, 27, JOURNAL)
         name, sync = failed.Told("rename", 2, 0, "desk.tables"), failed.Told("sync", 3, 0, "shop")

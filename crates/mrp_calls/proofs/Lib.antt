@@ -17,3 +17,4 @@ pub mod BundleTexts
 pub mod OnFolders
 pub mod RefusedLines
 pub mod Crashes
+pub mod OneRecords

@@ -1,6 +1,6 @@
 //! What follows from the definitions, each law the contract of a function that at most calls other laws.
 
-ghost use Rattle.std.specs.Prelude.{◌≡◌, ◌+◌, ◌<◌, ◌≤◌, ◌++◌, ◌∷◌, [], ℕ, List, Ok, Err, length};
+ghost use Rattle.std.specs.Prelude.{◌≡◌, ◌+◌, ◌<◌, ◌≤◌, ◌++◌, ◌∷◌, [], ℕ, List, Ok, Err, codes, length};
 ghost use Rattle.mrp_rows.specs.declared.fault.Fault.{Fault};
 ghost use Rattle.mrp_rows.specs.Joined.{Part};
 ghost use Rattle.mrp_rows.specs.Left.{Cells};
@@ -29,6 +29,12 @@ pub fn records()
     ensures short { (t : Tables) (number : ℕ) (line : List ℕ) (r : Cells) (given : ScriptRow) → call_of_line t number line ≡ Ok (r, given) → length (record_text given.call r) ≤ LEAST_ROOM }
     // It is one record, which reads as the line's call.
     ensures back { (t : Tables) (number : ℕ) (line : List ℕ) (r : Cells) (given : ScriptRow) → call_of_line t number line ≡ Ok (r, given) → ReadsBack t r given }
+{}
+
+/// A line that is typed as it is journalled.
+pub fn lines()
+    // It is one record.
+    ensures { IsOneRecord (codes "1,run,,,,\n") (codes "1" ∷ codes "run" ∷ [] ∷ [] ∷ [] ∷ [] ∷ []) }
 {}
 
 /// A journal that is read as the table `script` of a shop, and the record of a line's call behind it.

@@ -1,6 +1,6 @@
 //! The texts of answers, and the room for them.
 
-ghost use Rattle.std.specs.Prelude.{◌≡◌, ◌+◌, ◌≤◌, ◌++◌, IfOk, OnErr, OnOk, length, string_bytes, vec_capacity, vec_len};
+ghost use Rattle.std.specs.Prelude.{◌≡◌, ◌+◌, ◌<◌, ◌≤◌, ◌++◌, IfOk, OnErr, OnOk, length, string_bytes, vec_capacity, vec_len};
 ghost use Rattle.mrp_calls.specs.Answers.{refusal_text};
 
 use mrp_qty::NoMemory;
@@ -33,6 +33,7 @@ pub(crate) fn make_room(text: &mut Vec<u8>, most: usize, left: usize) -> Result<
     ensures len { vec_len text.new ≡ vec_len text.old }
     ensures kept { vec_capacity text.old ≤ vec_capacity text.new }
     ensures room { OnOk result (vec_len text.new + (most + left) ≤ vec_capacity text.new) }
+    ensures full { OnErr result (vec_capacity text.old < vec_len text.old + (most + left)) }
 {
     let Some(room) = most.checked_add(left) else {
         return Err(NoMemory);

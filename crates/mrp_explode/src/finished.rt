@@ -2,12 +2,12 @@
 
 ghost use Rattle.std.specs.Prelude.{◌≡◌, ◌≢◌, ◌<◌, ℕ, All, Some, None, IfOk, IfErr, IsSome, OnOk, OnErr, map, replicate, set};
 ghost use Rattle.mrp_item.specs.Inputs.{count};
-ghost use Rattle.mrp_item.specs.Made.{all_from, item_from, parents_from};
+ghost use Rattle.mrp_item.specs.Made.{all_from, item_from};
 ghost use Rattle.mrp_explode.specs.Finished.{Finishes, IsFinished, IsReady};
 ghost use Rattle.mrp_explode.specs.Explosion.{Explodes};
 
 use crate::fault::RunFault;
-use mrp_item::{Inputs, Outcome, Plan, plan_item};
+use mrp_item::{Inputs, Outcome, ParentOutcomes, Plan, plan_among};
 use mrp_qty::NoMemory;
 use std::alloc::Global;
 use std::marker::Model;
@@ -76,6 +76,17 @@ pub fn out_of_places<M: Drop>(alloc: Global, places: Vec<Option<M>>) -> Result<V
     Ok(all)
 }
 
+impl ParentOutcomes for Finished {
+    ghost has = { λ f o. (f.inputs ≡ o.inputs) × IsFinished f o.item };
+
+    fn outcome(&self, item: usize) -> &Outcome {
+        match self.outcomes.get(item) {
+            Some(Some(outcome)) => outcome,
+            _ => unreachable!(),
+        }
+    }
+}
+
 impl Finished {
     // The state in which no item is planned yet.
     //
@@ -93,39 +104,6 @@ impl Finished {
         Ok(Finished { inputs, outcomes })
     }
 
-    // The outcome of a finished item.
-    fn outcome(&self, item: usize) -> &Outcome
-        requires { IsFinished self.now item }
-        ensures { result.now ≡ item_from self.now.inputs item }
-    {
-        match self.outcomes.get(item) {
-            Some(Some(outcome)) => outcome,
-            _ => unreachable!(),
-        }
-    }
-
-    // A copy of the outcome of a finished item.
-    fn copy_of(&self, item: usize) -> Result<Outcome, NoMemory>
-        requires { IsFinished self.now item }
-        ensures { IfOk result (λ o. o ≡ item_from self.now.inputs item) }
-    {
-        self.outcome(item).copy()
-    }
-
-    // Copies of the outcomes of an item's parents.
-    fn parents_of(&self, alloc: Global, item: usize) -> Result<Vec<Outcome>, NoMemory>
-        requires item { item < count self.now.inputs }
-        requires ready { IsReady self.now item }
-        ensures { IfOk result (λ parents. parents.items ≡ parents_from self.now.inputs item) }
-    {
-        let parents = self.inputs.shop().parents(item);
-        let mut copies = Vec::with_capacity(alloc, parents.len())?;
-        for parent in parents {
-            copies.push(self.copy_of(*parent)?)?;
-        }
-        Ok(copies)
-    }
-
     // The outcome of planning an item whose parents are finished.
     //
     // Errors: `NoMemory` if an allocation fails, or a reference count cannot rise.
@@ -134,8 +112,7 @@ impl Finished {
         requires ready { IsReady self.now item }
         ensures { IfOk result (λ o. o ≡ item_from self.now.inputs item) }
     {
-        let parents = self.parents_of(alloc, item)?;
-        plan_item(alloc, &self.inputs, item, &parents)
+        plan_among(alloc, &self.inputs, item, self)
     }
 
     // Puts an outcome in its item's place. The caller guarantees that it was planned from the same

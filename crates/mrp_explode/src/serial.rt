@@ -8,6 +8,24 @@ use mrp_item::{Inputs, Plan};
 use std::alloc::Global;
 use std::sync::Arc;
 
+// The plan of these inputs: every item is planned, one at a time, parents before their components. Something
+// may be done before each item, told of the item's place in the table.
+pub(crate) fn plan_in_turn<F: Fn(usize)>(
+    alloc: Global,
+    inputs: &Arc<Inputs>,
+    before: F,
+) -> Result<Plan, RunFault>
+    requires { F.IsAlwaysCallable before }
+    ensures { Explodes inputs.now.value result }
+{
+    let mut finished = Finished::new(alloc, inputs)?;
+    for item in inputs.shop().order() {
+        before(*item);
+        finished.plan(alloc, *item)?;
+    }
+    finished.into_whole(alloc)
+}
+
 /// The plan of these inputs: every item is planned, one at a time, parents before their components
 /// (Orlicky: explosion).
 ///
@@ -16,9 +34,5 @@ use std::sync::Arc;
 pub fn explode_serial(alloc: Global, inputs: &Arc<Inputs>) -> Result<Plan, RunFault>
     ensures { Explodes inputs.now.value result }
 {
-    let mut finished = Finished::new(alloc, inputs)?;
-    for item in inputs.shop().order() {
-        finished.plan(alloc, *item)?;
-    }
-    finished.into_whole(alloc)
+    plan_in_turn(alloc, inputs, |_item: usize| {})
 }

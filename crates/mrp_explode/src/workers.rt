@@ -11,6 +11,7 @@ ghost use Rattle.mrp_explode.specs.Workers.{HasWorked, HaveWorked, IsNew, LeaveF
 use crate::fault::RunFault;
 use crate::finished::{out_of_places, plan_from, share};
 use crate::gate::Gate;
+use crate::serial::plan_in_turn;
 use crate::working::{Worker, work};
 use mrp_board::{Board, BoardCall, BoardReply, BoardState};
 use mrp_item::{Inputs, Plan};
@@ -159,8 +160,30 @@ fn plan_of(alloc: Global, inputs: &Arc<Inputs>, board: BoardState) -> Result<Pla
     plan_from(share(inputs)?, all)
 }
 
-/// The plan of these inputs: every item is planned, by so many workers (1 to 64, as the caller guarantees), like
-/// [`work_together`]. It is the plan that `explode_serial` gives. It may wait.
+// Drops a board's log in a thread for which nobody waits, or here if none can be started.
+fn drop_beside(rt: &impl Threads, log: Log<BoardCall, BoardReply>) {
+    let _ = thread::spawn(rt, move || drop(log));
+}
+
+// The plan that workers make at one board.
+fn plan_together<R: Threads + Wait + Sync, G: Gate + Sync>(
+    rt: &R,
+    alloc: Global,
+    inputs: &Arc<Inputs>,
+    workers: usize,
+    gate: &G,
+) -> Result<Plan, RunFault>
+    requires { IsInRange 1 MOST_WORKERS workers }
+    ensures { Explodes inputs.now.value result }
+{
+    let (board, log) = work_together(rt, alloc, inputs, workers, gate)?;
+    drop_beside(rt, log);
+    plan_of(alloc, inputs, board)
+}
+
+/// The plan of these inputs: every item is planned, by so many workers (1 to 64, as the caller guarantees). One
+/// worker plans in turn; several do as in [`work_together`]. It is the plan that `explode_serial` gives. It
+/// passes the gate before it plans an item, once for each. It may wait.
 ///
 /// Errors: `NoMemory` if an allocation fails; otherwise `TooLarge` with the first item in table
 /// order whose quantities get too large while those of no item above it do (profile).
@@ -174,7 +197,9 @@ pub fn explode<R: Threads + Wait + Sync, G: Gate + Sync>(
     requires { IsInRange 1 MOST_WORKERS workers }
     ensures { Explodes inputs.now.value result }
 {
-    let (board, log) = work_together(rt, alloc, inputs, workers, gate)?;
-    drop(log);
-    plan_of(alloc, inputs, board)
+    if workers == 1 {
+        plan_in_turn(alloc, inputs, |item: usize| gate.pass(rt, item))
+    } else {
+        plan_together(rt, alloc, inputs, workers, gate)
+    }
 }

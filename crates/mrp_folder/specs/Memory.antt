@@ -1,9 +1,21 @@
 -- What contracts see of a folder in memory (profile).
-use Rattle.std.specs.Prelude.{ℕ, List, map, string_bytes, take}
+use Rattle.std.specs.Prelude.{ℕ, List, map, string_bytes, take, vec_capacity}
 use Rattle.mrp_folder.specs.declared.memory.MemoryFile.{MemoryFile}
 use Rattle.mrp_folder.specs.declared.memory.MemoryFolder.{MemoryFolder}
 use Rattle.mrp_folder.specs.declared.memory.MemoryPart.{MemoryPart}
 use Rattle.mrp_folder.specs.Named.{Named}
+
+-- the bytes of a file
+abbrev pub part_bytes : MemoryPart → List ℕ
+part_bytes part = part.bytes.items
+
+-- how many bytes there is memory for
+abbrev pub part_room : MemoryPart → ℕ
+part_room part = vec_capacity part.bytes
+
+-- how many writes of a file are left before they fail
+abbrev pub writes_left : MemoryPart → ℕ
+writes_left part = part.writes
 
 -- the bytes of a file that are durable
 abbrev pub memory_durable : MemoryPart → List ℕ
@@ -24,6 +36,10 @@ memory_lasting folder = take folder.lasting (memory_files folder)
 -- how many of its calls are left before they fail
 abbrev pub calls_left : MemoryFolder → ℕ
 calls_left folder = folder.calls
+
+-- how many writes of each file do not fail
+abbrev pub writes_given : MemoryFolder → ℕ
+writes_given folder = folder.writes
 
 -- how many of its calls failed
 abbrev pub memory_failures : MemoryFolder → ℕ

@@ -1,15 +1,16 @@
 //! A folder of the operating system.
 
-ghost use Rattle.std.specs.Prelude.{◌≡◌, None};
+ghost use Rattle.std.specs.Prelude.{◌≡◌, IfOk, None};
+ghost use Rattle.std.specs.Path.{path_buf_bytes, path_join};
 ghost use Rattle.mrp_folder.specs.Disk.{failures_told, part_of, path_of};
 ghost use Rattle.mrp_folder.specs.Named.{TellsFailure};
 
 use crate::folder::Folder;
 use mrp_rows::WriteFault;
-use std::alloc::Global;
+use std::alloc::{AllocError, Global};
 use std::fs::{File, OpenFile};
 use std::io::Write;
-use std::path::Path;
+use std::path::{Path, PathBuf};
 use std::rt::Files;
 use std::{fs, io};
 
@@ -50,31 +51,6 @@ pub struct DiskFolder<'a, R> {
     failures: u64,
 }
 
-// Begins a file in a folder.
-fn begin_in<R: Files>(
-    files: &R,
-    alloc: Global,
-    folder: &str,
-    part: &str,
-) -> io::Result<DiskPart<R::File>> {
-    let path = Path::new(folder).join(alloc, part)?;
-    let file = File::create(files, path.as_str())?;
-    Ok(DiskPart { file })
-}
-
-// Gives a file of a folder another name.
-fn rename_in<R: Files>(
-    files: &R,
-    alloc: Global,
-    folder: &str,
-    part: &str,
-    name: &str,
-) -> io::Result<()> {
-    let from = Path::new(folder).join(alloc, part)?;
-    let to = Path::new(folder).join(alloc, name)?;
-    fs::rename(files, from.as_str(), to.as_str())
-}
-
 // Makes the names of a folder durable. An empty path is the folder that the program runs in.
 fn sync_names<R: Files>(files: &R, folder: &str) -> io::Result<()> {
     let path = if folder.is_empty() { "." } else { folder };
@@ -97,6 +73,20 @@ impl<'a, R> DiskFolder<'a, R> {
         }
     }
 
+    // The path of a file with a name.
+    fn path_to(&self, name: &str) -> Result<PathBuf, AllocError>
+        ensures { IfOk result (λ path. path_buf_bytes path ≡ path_join (path_of self.now) name.now) }
+    {
+        Path::new(self.folder).join(self.alloc, name)
+    }
+
+    // The path of the file that was begun.
+    fn path_to_part(&self) -> Result<PathBuf, AllocError>
+        ensures { IfOk result (λ path. path_buf_bytes path ≡ path_join (path_of self.now) (part_of self.now)) }
+    {
+        self.path_to(self.part)
+    }
+
     // Counts a call that failed.
     fn told<X>(&mut self, outcome: io::Result<X>) -> Result<X, WriteFault>
         ensures { TellsFailure (failures_told self.old) (failures_told self.new) result }
@@ -108,6 +98,22 @@ impl<'a, R> DiskFolder<'a, R> {
                 Err(WriteFault)
             }
         }
+    }
+}
+
+impl<'a, R: Files> DiskFolder<'a, R> {
+    // Begins a file.
+    fn begin_part(&self) -> io::Result<DiskPart<R::File>> {
+        let path = self.path_to_part()?;
+        let file = File::create(self.files, path.as_str())?;
+        Ok(DiskPart { file })
+    }
+
+    // Gives the file that was begun a name.
+    fn rename_part(&self, name: &str) -> io::Result<()> {
+        let from = self.path_to_part()?;
+        let to = self.path_to(name)?;
+        fs::rename(self.files, from.as_str(), to.as_str())
     }
 }
 
@@ -123,7 +129,7 @@ impl<'a, R: Files> Folder for DiskFolder<'a, R> {
     ghost failures = { failures_told };
 
     fn begin(&mut self) -> Result<DiskPart<R::File>, WriteFault> {
-        let outcome = begin_in(self.files, self.alloc, self.folder, self.part);
+        let outcome = self.begin_part();
         self.told(outcome)
     }
 
@@ -133,7 +139,7 @@ impl<'a, R: Files> Folder for DiskFolder<'a, R> {
     }
 
     fn name(&mut self, _part: DiskPart<R::File>, name: &str) -> Result<(), WriteFault> {
-        let outcome = rename_in(self.files, self.alloc, self.folder, self.part, name);
+        let outcome = self.rename_part(name);
         self.told(outcome)
     }
 

@@ -19,9 +19,23 @@ pub struct MemoryPart {
 }
 
 impl Write for MemoryPart {
-    ghost contents = { λ part. Some part.bytes.items };
+    ghost use Rattle.std.specs.Prelude.{◌≡◌, ◌<◌, ◌-◌, ◌+◌, ◌⊎◌, IfOk, OnErr, OnOk, Some, length};
+    ghost use Rattle.std.specs.Io.{WritesAtMost};
+    ghost use Rattle.std.specs.Io.KnownBytes.{WriteAppends};
+    ghost use Rattle.mrp_folder.specs.Memory.{part_bytes, part_room, writes_left};
 
-    fn write(&mut self, buf: &[u8]) -> io::Result<usize> {
+    ghost contents = { λ part. Some (part_bytes part) };
+
+    fn write(&mut self, buf: &[u8]) -> io::Result<usize>
+        ensures bound { WritesAtMost result buf.now }
+        ensures bytes { WriteAppends (Some (part_bytes self.old)) (Some (part_bytes self.new)) result buf.now }
+        ensures whole { IfOk result (λ count. count ≡ length buf.now) }
+        ensures fewer { writes_left self.new ≡ writes_left self.old - 1 }
+        ensures taken { OnOk result (0 < writes_left self.old) }
+
+        // It fails only where no write is left, or there is no memory for the bytes yet.
+        ensures fails { OnErr result ((writes_left self.old ≡ 0) ⊎ (part_room self.old < length (part_bytes self.old) + length buf.now)) }
+    {
         match self.writes.checked_sub(1) {
             Some(left) => self.writes = left,
             None => return Err(io::Error::from(ErrorKind::Other)),
@@ -89,14 +103,15 @@ fn push_file(
 }
 
 impl MemoryFolder {
-    ghost use Rattle.std.specs.Prelude.{◌≡◌, ◌-◌, [], IsErr, Some, map, nat_lt};
+    ghost use Rattle.std.specs.Prelude.{◌≡◌, ◌<◌, ◌↔◌, ◌-◌, [], IsErr, IsTrue, Some, map};
     ghost use Rattle.mrp_rows.specs.Told.{counted};
-    ghost use Rattle.mrp_folder.specs.Memory.{calls_left, memory_failures, memory_files};
+    ghost use Rattle.mrp_folder.specs.Memory.{calls_left, memory_failures, memory_files, writes_given};
 
     /// A folder without files, whose calls fail after so many, and the writes of each of its files after so many.
     pub fn new(alloc: Global, calls: u64, writes: u64) -> MemoryFolder
         ensures files { memory_files result ≡ [] }
         ensures calls { calls_left result ≡ calls }
+        ensures writes { writes_given result ≡ writes }
         ensures failures { memory_failures result ≡ 0 }
     {
         MemoryFolder {
@@ -119,6 +134,7 @@ impl MemoryFolder {
     // Counts a call that fails.
     fn fail<X>(&mut self) -> Result<X, WriteFault>
         ensures files { memory_files self.new ≡ memory_files self.old }
+        ensures calls { calls_left self.new ≡ calls_left self.old }
         ensures told { memory_failures self.new ≡ counted 1 (memory_failures self.old) }
         ensures fails { IsErr result }
     {
@@ -128,8 +144,9 @@ impl MemoryFolder {
 
     // Takes one of the calls that are left; false if none is.
     fn takes_call(&mut self) -> bool
-        ensures takes { result ≡ nat_lt 0 (calls_left self.old) }
+        ensures takes { IsTrue result ↔ (0 < calls_left self.old) }
         ensures fewer { calls_left self.new ≡ calls_left self.old - 1 }
+        ensures writes { writes_given self.new ≡ writes_given self.old }
         ensures files { memory_files self.new ≡ memory_files self.old }
         ensures told { memory_failures self.new ≡ memory_failures self.old }
     {
@@ -144,7 +161,11 @@ impl MemoryFolder {
 }
 
 impl Folder for MemoryFolder {
-    ghost use Rattle.mrp_folder.specs.Memory.{memory_durable, memory_failures, memory_files, memory_lasting};
+    ghost use Rattle.std.specs.Prelude.{◌≡◌, ◌<◌, ◌-◌, ◌⊎◌, [], IfOk, OnErr, OnOk, Some};
+    ghost use Rattle.std.specs.Io.KnownBytes.{Keeps};
+    ghost use Rattle.mrp_journal.specs.Memory.{TakesCall};
+    ghost use Rattle.mrp_folder.specs.Memory.{calls_left, memory_durable, memory_failures, memory_files, memory_lasting, part_bytes, writes_given, writes_left};
+    ghost use Rattle.mrp_folder.specs.Named.{TellsFailure, with_name};
 
     type Part = MemoryPart;
 
@@ -156,7 +177,13 @@ impl Folder for MemoryFolder {
 
     ghost failures = { memory_failures };
 
-    fn begin(&mut self) -> Result<MemoryPart, WriteFault> {
+    fn begin(&mut self) -> Result<MemoryPart, WriteFault>
+        ensures empty { IfOk result (λ part. part_bytes part ≡ []) }
+        ensures writes { IfOk result (λ part. writes_left part ≡ writes_given self.old) }
+        ensures same { memory_files self.new ≡ memory_files self.old }
+        ensures told { TellsFailure (memory_failures self.old) (memory_failures self.new) result }
+        ensures call { TakesCall (calls_left self.old) (calls_left self.new) result }
+    {
         if !self.takes_call() {
             return self.fail();
         }
@@ -167,7 +194,13 @@ impl Folder for MemoryFolder {
         })
     }
 
-    fn sync(&mut self, part: &mut MemoryPart) -> Result<(), WriteFault> {
+    fn sync(&mut self, part: &mut MemoryPart) -> Result<(), WriteFault>
+        ensures bytes { part_bytes part.new ≡ part_bytes part.old }
+        ensures synced { OnOk result (memory_durable part.new ≡ part_bytes part.new) }
+        ensures same { memory_files self.new ≡ memory_files self.old }
+        ensures told { TellsFailure (memory_failures self.old) (memory_failures self.new) result }
+        ensures call { TakesCall (calls_left self.old) (calls_left self.new) result }
+    {
         if !self.takes_call() {
             return self.fail();
         }
@@ -175,7 +208,13 @@ impl Folder for MemoryFolder {
         Ok(())
     }
 
-    fn name(&mut self, part: MemoryPart, name: &str) -> Result<(), WriteFault> {
+    fn name(&mut self, part: MemoryPart, name: &str) -> Result<(), WriteFault>
+        ensures named { OnOk result (Some (memory_files self.new) ≡ with_name name.now (Some (part_bytes part)) (Some (memory_durable part)) (Some (memory_files self.old))) }
+        ensures same { OnErr result (memory_files self.new ≡ memory_files self.old) }
+        ensures told { TellsFailure (memory_failures self.old) (memory_failures self.new) result }
+        ensures fewer { calls_left self.new ≡ calls_left self.old - 1 }
+        ensures taken { OnOk result (0 < calls_left self.old) }
+    {
         if !self.takes_call() {
             return self.fail();
         }
@@ -185,7 +224,12 @@ impl Folder for MemoryFolder {
         }
     }
 
-    fn settle(&mut self) -> Result<(), WriteFault> {
+    fn settle(&mut self) -> Result<(), WriteFault>
+        ensures lasting { OnOk result (memory_lasting self.new ≡ memory_files self.new) }
+        ensures same { memory_files self.new ≡ memory_files self.old }
+        ensures told { TellsFailure (memory_failures self.old) (memory_failures self.new) result }
+        ensures call { TakesCall (calls_left self.old) (calls_left self.new) result }
+    {
         if !self.takes_call() {
             return self.fail();
         }

@@ -1,5 +1,6 @@
 //! A journal before whose first record a text is durable in its folder.
 
+use crate::fault::KeepFault;
 use crate::folder::Folder;
 use crate::keeping::keep_text;
 use mrp_journal::Store;
@@ -19,9 +20,9 @@ pub struct SealedJournal<'a, S, D> {
 }
 
 impl<'a, S: Store, D: Folder> SealedJournal<'a, S, D> {
-    ghost use Rattle.std.specs.Prelude.{◌≡◌, ◌≢◌, true, OnErr, OnOk};
-    ghost use Rattle.mrp_folder.specs.Kept.{FailsToKeep};
-    ghost use Rattle.mrp_folder.specs.Named.{TellsFailure};
+    ghost use Rattle.std.specs.Prelude.{◌≡◌, ◌≢◌, true, IfErr, OnErr, OnOk};
+    ghost use Rattle.mrp_rows.specs.Told.{HasRisenBy};
+    ghost use Rattle.mrp_folder.specs.Kept.{Fails};
     ghost use Rattle.mrp_folder.specs.Sealed.{IsThere, KeepsText, failures_of_sealed, folder_of, has_seal, journal_of, name_of, text_of};
 
     /// A journal, and the text that is to be in the folder under a name, where it is not there yet.
@@ -37,6 +38,7 @@ impl<'a, S: Store, D: Folder> SealedJournal<'a, S, D> {
         ensures text { text_of result ≡ text.now }
         ensures name { name_of result ≡ name.now }
         ensures sealed { has_seal result ≡ is_sealed }
+        ensures failures { failures_of_sealed result ≡ 0 }
     {
         SealedJournal {
             journal,
@@ -56,29 +58,28 @@ impl<'a, S: Store, D: Folder> SealedJournal<'a, S, D> {
     }
 
     // Puts the text into the folder, and makes its name durable.
-    fn put(&mut self) -> Result<(), WriteFault>
+    fn put(&mut self) -> Result<(), KeepFault<D::Part>>
         ensures journal { journal_of self.new ≡ journal_of self.old }
         ensures sealed { has_seal self.new ≡ has_seal self.old }
         ensures text { KeepsText self.old self.new }
         ensures there { OnOk result (IsThere (text_of self.old) (name_of self.old) (D.named (folder_of self.old)) (D.named (folder_of self.new)) (D.lasting (folder_of self.new))) }
         ensures failures { failures_of_sealed self.new ≡ failures_of_sealed self.old }
-        ensures failed { OnErr result (FailsToKeep D.Part (D.failures (folder_of self.old)) (D.failures (folder_of self.new))) }
+        ensures failed { IfErr result (Fails (D.failures (folder_of self.old)) (D.failures (folder_of self.new))) }
     {
-        match keep_text(&mut self.folder, self.text, self.name) {
-            Ok(()) => self.folder.settle(),
-            Err(_) => Err(WriteFault),
-        }
+        keep_text(&mut self.folder, self.text, self.name)?;
+        Ok(self.folder.settle()?)
     }
 
     // Puts the text into the folder, if it is not there yet.
-    fn seal(&mut self) -> Result<(), WriteFault>
+    fn seal(&mut self) -> Result<(), KeepFault<D::Part>>
         ensures journal { journal_of self.new ≡ journal_of self.old }
         ensures text { KeepsText self.old self.new }
         ensures sealed { OnOk result (has_seal self.new ≡ true) }
         ensures unsealed { OnErr result (has_seal self.new ≢ true) }
         ensures there { OnOk result (has_seal self.old ≢ true → IsThere (text_of self.old) (name_of self.old) (D.named (folder_of self.old)) (D.named (folder_of self.new)) (D.lasting (folder_of self.new))) }
-        ensures failed { OnErr result (FailsToKeep D.Part (D.failures (folder_of self.old)) (D.failures (folder_of self.new))) }
-        ensures told { TellsFailure (failures_of_sealed self.old) (failures_of_sealed self.new) result }
+        ensures failed { IfErr result (Fails (D.failures (folder_of self.old)) (D.failures (folder_of self.new))) }
+        ensures sound { OnOk result (failures_of_sealed self.new ≡ failures_of_sealed self.old) }
+        ensures risen { OnErr result (HasRisenBy 1 (failures_of_sealed self.old) (failures_of_sealed self.new)) }
     {
         if self.is_sealed {
             return Ok(());
@@ -88,9 +89,9 @@ impl<'a, S: Store, D: Folder> SealedJournal<'a, S, D> {
                 self.is_sealed = true;
                 Ok(())
             }
-            Err(WriteFault) => {
+            Err(fault) => {
                 self.failures = self.failures.saturating_add(1);
-                Err(WriteFault)
+                Err(fault)
             }
         }
     }
@@ -126,8 +127,10 @@ impl<'a, S: Store, D: Folder> Store for SealedJournal<'a, S, D> {
         ensures known { has_seal self.new ≡ true → (has_seal self.old ≡ true)
             ⊎ IsThere (text_of self.old) (name_of self.old) (D.named (folder_of self.old)) (D.named (folder_of self.new)) (D.lasting (folder_of self.new)) }
     {
-        self.seal()?;
-        self.journal.append(bytes)
+        match self.seal() {
+            Ok(()) => self.journal.append(bytes),
+            Err(_) => Err(WriteFault),
+        }
     }
 
     fn sync(&mut self) -> Result<(), WriteFault>

@@ -7,7 +7,7 @@ use std::io::Read;
 use std::marker::Model;
 
 // How many bytes one `read` call requests.
-const PIECE: usize = 65_536;
+pub(crate) const PIECE: usize = 65_536;
 
 /// The lines that a read completed, and what was read of the next one.
 #[derive(Drop)]
@@ -75,6 +75,7 @@ impl Intake {
         ensures once { OnOk result (StopsReading R.remaining reader.old reader.new) }
         ensures end { result ≡ Ok false → (self.new.batch ≡ []) × (self.new.begun ≡ []) × IsAtEnd (R.remaining (inner_of reader.new)) }
         ensures failures { OnOk result (failures_of reader.new ≡ failures_of reader.old) }
+        ensures memory { result ≡ Err ReadFault.NoMemory → failures_of reader.new ≡ failures_of reader.old }
         ensures refused { result ≡ Err ReadFault.Read → HasRisenBy 1 (failures_of reader.old) (failures_of reader.new)
             ⊎ (greatest_count ≤ interrupted_of reader.new)
             ⊎ HasRisenBy READ_CALLS (calls_of reader.old) (calls_of reader.new) }

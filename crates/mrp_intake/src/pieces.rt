@@ -6,18 +6,19 @@ ghost use Rattle.mrp_rows.specs.Told.{HasRisenBy, calls_of, counted, failures_of
 ghost use Rattle.mrp_intake.specs.Intake.{IsEnded, IsInLine, retries_of};
 ghost use Rattle.mrp_intake.specs.Lines.{told_lines};
 
+use crate::intake::PIECE;
 use crate::lines::LONGEST_LINE;
 use memchr::memrchr;
 use mrp_rows::{ReadFault, Told};
 use std::alloc::AllocError;
 use std::io::Read;
 
-// One call of a reader: how many bytes it gave, or `None` if it was interrupted.
+// One call of a reader, which asks for a piece: how many bytes it gave, or `None` if it was interrupted.
 pub(crate) fn read_once<R: Read>(
     reader: &mut Told<R>,
     piece: &mut [u8],
 ) -> Result<Option<usize>, ReadFault>
-    requires { 0 < length piece.old }
+    requires { length piece.old ≡ PIECE }
     ensures calls { calls_of reader.new ≡ counted 1 (calls_of reader.old) }
     ensures failures { OnOk result (failures_of reader.new ≡ failures_of reader.old) }
     ensures given { IfOk result (λ got. IfSome got (λ count. (count ≤ length piece.new)

@@ -3,7 +3,6 @@ use Rattle.std.proofs.Common.{◌≡◌, ◌∙◌, ℕ, ◌+◌, ◌<◌, ◌�
 use Rattle.std.specs.Prelude.{sum, sum_by, nat_lt}
 use Rattle.std.specs.List.{list_all}
 use Rattle.std.proofs.lemmas.Bool.{lt-ltb, le-ltb, or_right}
-use Rattle.std.proofs.lemmas.List.Folds.{list_all-map}
 use Rattle.mrp_qty.specs.Quantity.{greatest_quantity}
 use Rattle.mrp_bill.specs.Bill.{parents_of}
 use Rattle.mrp_phase.specs.Weeks.{in_week, sum_to}
@@ -13,8 +12,6 @@ use Rattle.mrp_item.specs.Rows.{scheduled_in, stock_of}
 use Rattle.mrp_item.specs.Orders.{orders_of}
 use Rattle.mrp_item.specs.Own.{AreWithin, ArePast, IsReady, own_gross}
 use Rattle.mrp_item.specs.Plan.{ItemPlan, IsRanked, Over, Planned, Blocked, gross_in, is_planned, is_too_large, item_plan, outcome_of, receipts_of}
-use Rattle.mrp_item.specs.Places.{ItemOf}
-use Rattle.mrp_item.specs.Made.{item_from, parents_from}
 use Rattle.mrp_item.proofs.Outcomes.{is_ready, not_ready}
 
 -- sums up to the last week are sums of rows
@@ -63,12 +60,6 @@ within-planned s code i ranked ready within starts =
     let small : is_too_large s i (own s i) ≡ false = rw (a, b, d) refl in
     is_ready s code ranked i ready ∙ rw small refl
 
--- parents, each by its place
-pub told : (s : Inputs) (i : ℕ) (parents : List ItemOf) → parents ≡ parents_from s i
-    → list_all (λ o. is_planned (outcome_of o.inputs o.item)) parents ≡ list_all (λ p. is_planned (outcome_of s p)) (parents_of s.tables.bills (count s) i)
-told s i parents are =
-    ap (list_all (λ o. is_planned (outcome_of o.inputs o.item))) are
-    ∙ list_all-map (λ o. is_planned (outcome_of o.inputs o.item)) (item_from s) (parents_of s.tables.bills (count s) i)
-
+-- a parent that is not planned
 pub blocked : (s : Inputs) (code : ℕ → ℕ) (i : ℕ) → IsRanked s code → list_all (λ p. is_planned (outcome_of s p)) (parents_of s.tables.bills (count s) i) ≡ false → outcome_of s i ≡ Blocked
 blocked s code i ranked e = not_ready s code ranked i e

@@ -1,8 +1,9 @@
 -- The parents of an item and the lines to it, by their places.
-use Rattle.std.proofs.Common.{◌≡◌, ◌≢◌, ◌∙◌, ℕ, zero, suc, ◌+◌, ◌<◌, ◌≤◌, Bool, true, false, cond, eqb, List, [], ◌∷◌, ◌++◌, length, take, map, get_or, refl, sym, ap, arith, take_all, add-one}
-use Rattle.std.specs.Prelude.{filter, ◌||◌, ◌&&◌}
+use Rattle.std.proofs.Common.{◌≡◌, ◌≢◌, ◌∙◌, ℕ, zero, suc, ◌+◌, ◌<◌, ◌≤◌, Bool, true, false, cond, eqb, List, [], ◌∷◌, ◌++◌, length, take, map, get_or, refl, sym, ap, subst, arith, take_all, add-one}
+use Rattle.std.specs.Prelude.{All, filter, ◌||◌, ◌&&◌}
 use Rattle.std.specs.List.{range_with_len}
 use Rattle.std.proofs.lemmas.Bool.{eqb-true, eqb-false, eq-eqb}
+use Rattle.std.proofs.lemmas.Grind.{get_or_default_zero}
 use Rattle.std.proofs.lemmas.List.{get_or-map, length-map, map-append}
 use Rattle.std.proofs.lemmas.List.Elements.{filter_more}
 use Rattle.mrp_tables.specs.declared.rows.BillLine.{BillLine}
@@ -10,7 +11,8 @@ use Rattle.mrp_bill.specs.Bill.{is_parent, IsParent, parents_of, line_at, lines_
 use Rattle.mrp_bill.proofs.Listed.{filter-range_more}
 use Rattle.mrp_item.specs.Inputs.{Inputs, count}
 use Rattle.mrp_item.specs.Places.{ItemOf}
-use Rattle.mrp_item.specs.Made.{item_from, parents_from}
+use Rattle.mrp_item.specs.Made.{item_from, items_from, parents_from}
+use Rattle.mrp_item.specs.ParentOutcomes.{HasParentsOf, IsListed}
 
 -- the numbers of a range that pass
 pub kept_at : (p : ℕ → Bool) (a n k : ℕ) → k < length (filter p (range_with_len a n))
@@ -118,9 +120,44 @@ lines-at lines i =
 pub length-parents : (s : Inputs) (i : ℕ) (parents : List ItemOf) → parents ≡ parents_from s i → length (parents_of s.tables.bills (count s) i) ≡ length parents
 length-parents s i parents are = sym (ap length are ∙ length-map (parents_of s.tables.bills (count s) i) (item_from s))
 
--- a parent's outcome, by the parent's place
-pub parent-at : (s : Inputs) (i parent k : ℕ) (parents : List ItemOf) (o : ItemOf) → parents ≡ parents_from s i → k < length parents
-    → get_or (parents_of s.tables.bills (count s) i) k 0 ≡ parent → o ≡ get_or parents k o → o ≡ item_from s parent
-parent-at s i parent k parents o are h at is =
-    let there : k < length (parents_of s.tables.bills (count s) i) = omega (arith, h, length-parents s i parents are) in
-    is ∙ ap (λ (xs : List ItemOf). get_or xs k o) are ∙ get_or-map (item_from s) (parents_of s.tables.bills (count s) i) k 0 o there ∙ ap (item_from s) at
+-- the line at such a place is from a parent
+pub from-parent : (s : Inputs) (i k : ℕ) (bills : List BillLine) (places : List ℕ) (line : BillLine) → bills ≡ s.tables.bills → places ≡ lines_of s.tables.bills i → k < length places
+    → line ≡ line_at bills (get_or places k 0) → IsParent s.tables.bills line.parent i
+from-parent s i k bills places line same are h is =
+    let place = get_or places k 0 in
+    let at = to_item s.tables.bills i k places are h in
+    let here : line ≡ line_at s.tables.bills place = is ∙ ap (λ (ls : List BillLine). line_at ls place) same in
+    rw here (line-parent s.tables.bills place i (record { parent = 0; component = 0; per = 0 }) at.0 at.1)
+
+-- the outcome of a parent is there
+pub parent-there : {P : Type 0} (Has : P → ItemOf → Type 0) (parents : P) (s : Inputs) (i p : ℕ) → HasParentsOf Has parents s i → p < count s → IsParent s.tables.bills p i → Has parents (item_from s p)
+parent-there Has parents s i p all within parent =
+    let (k, low, is) = kept_there (λ q. is_parent s.tables.bills q i) 0 (count s) p (omega arith) (omega arith) parent in
+    subst (λ (q : ℕ). Has parents (item_from s q)) is (all k 0 low)
+
+-- and so is that of the next parent in table order
+pub next-there : {P : Type 0} (Has : P → ItemOf → Type 0) (parents : P) (s : Inputs) (i k : ℕ) (above : List ℕ) → HasParentsOf Has parents s i → above ≡ parents_of s.tables.bills (count s) i → k < length above
+    → Has parents (item_from s (get_or above k 0))
+next-there Has parents s i k above all are h =
+    subst (λ (xs : List ℕ). Has parents (item_from s (get_or xs k 0))) (sym are) (all k 0 (subst (λ (xs : List ℕ). k < length xs) are h))
+
+-- as many outcomes are listed as items
+pub length-listed : (items : List ℕ) (outcomes : List ItemOf) (o : ItemOf) → IsListed items outcomes o → length outcomes ≡ length items
+length-listed items outcomes o l = ap length l.made ∙ length-map items (item_from o.inputs)
+
+-- the outcome listed beside an item is the item's
+pub listed-at : (s : Inputs) (i k : ℕ) (items : List ℕ) (outcomes : List ItemOf) (o : ItemOf) → IsListed items outcomes (item_from s i) → k < length items → get_or items k 0 ≡ i
+    → o ≡ get_or outcomes k o → o ≡ item_from s i
+listed-at s i k items outcomes o l h at is =
+    is ∙ ap (λ (xs : List ItemOf). get_or xs k o) l.made ∙ get_or-map (item_from s) items k 0 o h ∙ ap (item_from s) at
+
+-- the outcomes of the parents, in table order, are listed beside the parents
+pub parents-listed : (s : Inputs) (i : ℕ) (items : List ℕ) (outcomes : List ItemOf) → items ≡ parents_of s.tables.bills (count s) i → outcomes ≡ parents_from s i
+    → All (λ p. IsListed items outcomes (item_from s p)) (parents_of s.tables.bills (count s) i)
+parents-listed s i items outcomes are made k d h =
+    let parents = parents_of s.tables.bills (count s) i in
+    record {
+      rises = rw are (kept_rise (λ p. is_parent s.tables.bills p i) 0 (count s));
+      there = rw are (k, h, sym (get_or_default_zero parents k d h));
+      made = made ∙ ap (items_from s) (sym are);
+    }

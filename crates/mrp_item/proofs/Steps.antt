@@ -12,7 +12,7 @@ use Rattle.mrp_phase.specs.Weeks.{row}
 use Rattle.mrp_phase.proofs.WeekRows.{row_same}
 use Rattle.mrp_item.specs.Inputs.{Inputs, count, horizon, is_master}
 use Rattle.mrp_item.specs.NetChange.{IsUntouched}
-use Rattle.mrp_item.specs.Rows.{booked, independent_demand, forecast, service}
+use Rattle.mrp_item.specs.Rows.{independent_demand, forecast, service}
 use Rattle.mrp_item.specs.Plan.{Blocked, IsRanked, Outcome, line_demand, gross_in, is_planned, item_plan, judged, outcome_step, part_gross, plan_in}
 use Rattle.mrp_item.specs.Recursion.{IsLocal}
 

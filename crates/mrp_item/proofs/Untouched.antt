@@ -1,6 +1,6 @@
 -- What net change leaves alone, and what it touches.
 use Rattle.std.proofs.Common.{◌≡◌, ◌∙◌, ℕ, ◌<◌, ◌⊎◌, inl, inr, Bool, true, false, eqb, List, [], ◌∷◌, length, get_or, refl, sym, ap, subst, arith}
-use Rattle.std.specs.Prelude.{All, Any, MatchBool, Option, Some, None, Ok, filter, map, not, ◌&&◌, ◌||◌}
+use Rattle.std.specs.Prelude.{All, Any, MatchBool, Option, Some, None, Ok, map, not, ◌&&◌, ◌||◌}
 use Rattle.std.specs.Bool.{OnFalse, OnTrue}
 use Rattle.std.specs.Int.{IsInRange}
 use Rattle.std.specs.List.{list_all, range_with_len}

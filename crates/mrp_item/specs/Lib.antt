@@ -16,6 +16,7 @@ pub mod Cases
 pub mod Own
 pub mod Whole
 pub mod Made
+pub mod ParentOutcomes
 pub mod NetChange
 pub mod DependentDemand
 pub mod Supplies

@@ -7,13 +7,13 @@ use mrp_qty::{NoMemory, Qty};
 use std::marker::Model;
 use std::sync::Arc;
 
-// The rows of an item's plan.
+// The rows of an item's plan. What its components and their pegs read comes first, next to the counts of its `Arc`.
 #[derive(Drop)]
 pub struct PlanRows {
-    pub gross: Weeks<Qty>,
-    pub receipts: Weeks<Qty>,
-    pub orders: Vec<Order>,
     pub started: Weeks<Qty>,
+    pub orders: Vec<Order>,
+    pub receipts: Weeks<Qty>,
+    pub gross: Weeks<Qty>,
 }
 
 /// An item's plan, for the inputs that it holds. Its copies share its rows.

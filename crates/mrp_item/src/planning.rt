@@ -5,12 +5,14 @@ ghost use Rattle.std.specs.List.{list_all};
 ghost use Rattle.mrp_qty.specs.Quantity.{greatest_quantity, quantity_of};
 ghost use Rattle.mrp_phase.specs.Weeks.{in_week, row};
 ghost use Rattle.mrp_lots.specs.Lots.{IsStepped, receipts, stepped};
+ghost use Rattle.mrp_bill.specs.Bill.{parents_of};
 ghost use Rattle.mrp_item.specs.Limits.{IsPlannable};
 ghost use Rattle.mrp_item.specs.Inputs.{count, horizon};
 ghost use Rattle.mrp_item.specs.Lot.{rule_of};
 ghost use Rattle.mrp_item.specs.Kept.{AreRowsOf};
 ghost use Rattle.mrp_item.specs.Made.{item_from, parents_from};
 ghost use Rattle.mrp_item.specs.Orders.{started_in};
+ghost use Rattle.mrp_item.specs.ParentOutcomes.{HasParentsOf};
 ghost use Rattle.mrp_item.specs.Own.{AreWithin, ArePast, IsReady, own_gross};
 ghost use Rattle.mrp_item.specs.Rows.{stock_of};
 ghost use Rattle.mrp_item.specs.Plan as plan;
@@ -23,6 +25,7 @@ use crate::order::Order;
 use crate::orders::orders_for;
 use crate::outcome::Outcome;
 use crate::over::or_over;
+use crate::parent_outcomes::{Listed, ParentOutcomes};
 use crate::planned::{PlanRows, Planned};
 use crate::supply::{independent_demand, stock_for};
 use mrp_lots::{Fixed, LotForLot, Period, Stepped, receipts};
@@ -34,14 +37,14 @@ use std::alloc::Global;
 use std::sync::Arc;
 
 // The gross requirements of an item.
-fn gross_row(
+fn gross_row<P: ParentOutcomes>(
     alloc: Global,
     inputs: &Inputs,
     item: usize,
-    parents: &[Outcome],
+    parents: &P,
 ) -> Result<Weeks<Qty>, PhaseFault>
     requires item { item < count inputs.now }
-    requires parents { parents.now ≡ parents_from inputs.now item }
+    requires parents { HasParentsOf P.has parents.now inputs.now item }
     requires ready { IsReady inputs.now item }
     ensures value { IfOk result (λ w. w ≡ own_gross inputs.now item) }
     ensures over { IfErr result (λ fault. fault ≡ PhaseFault.TooLarge → greatest_quantity < sum (own_gross inputs.now item)) }
@@ -155,22 +158,30 @@ fn own_receipts(
     receipts_row(alloc, inputs, item, gross, &stock)
 }
 
-// Whether all parents are planned.
-fn are_planned(parents: &[Outcome]) -> bool
-    ensures { result ≡ list_all (λ o. is_planned (outcome_of o.inputs o.item)) parents.now }
+// Whether all parents of an item are planned.
+fn are_planned<P: ParentOutcomes>(inputs: &Inputs, item: usize, parents: &P) -> bool
+    requires item { item < count inputs.now }
+    requires parents { HasParentsOf P.has parents.now inputs.now item }
+    ensures { result ≡ list_all (λ p. is_planned (outcome_of inputs.now p)) (parents_of inputs.now.tables.bills (count inputs.now) item) }
 {
-    parents.iter().all(|parent| parent.is_planned())
+    let above = inputs.shop().parents(item);
+    for parent in above {
+        if !parents.outcome(*parent).is_planned() {
+            return false;
+        }
+    }
+    true
 }
 
 // The rows of an item whose parents are all planned.
-fn own_rows(
+fn own_rows<P: ParentOutcomes>(
     alloc: Global,
     inputs: &Inputs,
     item: usize,
-    parents: &[Outcome],
+    parents: &P,
 ) -> Result<Arc<PlanRows>, PhaseFault>
     requires item { item < count inputs.now }
-    requires parents { parents.now ≡ parents_from inputs.now item }
+    requires parents { HasParentsOf P.has parents.now inputs.now item }
     requires ready { IsReady inputs.now item }
     ensures rows { IfOk result (λ rows. AreRowsOf inputs.now item rows.value) }
     ensures over { IfErr result (λ fault. fault ≡ PhaseFault.TooLarge → outcome_of inputs.now item ≡ plan.Over) }
@@ -211,7 +222,30 @@ fn outcome_from(
 /// The outcome of planning an item: its plan, or that it is over, or blocked by one above it (profile).
 /// It plans by netting, the item's lot rule, scrap and lead time (Orlicky).
 ///
-/// It needs the outcomes of the item's distinct parents, in table order, of equal inputs.
+/// It needs the outcomes of the item's parents, of equal inputs, where they are kept.
+///
+/// Errors: `NoMemory` if an allocation fails, or a reference count cannot rise.
+pub fn plan_among<P: ParentOutcomes>(
+    alloc: Global,
+    inputs: &Arc<Inputs>,
+    item: usize,
+    parents: &P,
+) -> Result<Outcome, NoMemory>
+    requires item { item < count inputs.now.value }
+    requires parents { HasParentsOf P.has parents.now inputs.now.value item }
+    ensures { IfOk result (λ o. o ≡ item_from inputs.now.value item) }
+{
+    let source = inputs.clone()?;
+    // Its codes rank the items, parents above their components.
+    let _ranked = source.shop();
+    if !are_planned(inputs, item, parents) {
+        return Ok(Outcome::blocked(source, item));
+    }
+    outcome_from(source, item, own_rows(alloc, inputs, item, parents))
+}
+
+/// The outcome of planning an item, as by [`plan_among`], from the outcomes of its distinct parents, in table
+/// order, of equal inputs.
 ///
 /// Errors: `NoMemory` if an allocation fails, or a reference count cannot rise.
 pub fn plan_item(
@@ -224,11 +258,9 @@ pub fn plan_item(
     requires parents { parents.now ≡ parents_from inputs.now.value item }
     ensures { IfOk result (λ o. o ≡ item_from inputs.now.value item) }
 {
-    let source = inputs.clone()?;
-    // Its codes rank the items, parents above their components.
-    let _ranked = source.shop();
-    if !are_planned(parents) {
-        return Ok(Outcome::blocked(source, item));
-    }
-    outcome_from(source, item, own_rows(alloc, inputs, item, parents))
+    let listed = Listed {
+        items: inputs.shop().parents(item),
+        outcomes: parents,
+    };
+    plan_among(alloc, inputs, item, &listed)
 }

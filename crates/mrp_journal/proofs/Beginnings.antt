@@ -49,12 +49,12 @@ unfolding without_mark
 mark-none = refl
 
 -- line ends alone have no record
-no-records : (xs : List ℕ) → without_line_ends xs ≡ [] → journal_records xs ≡ []
+pub no-records : (xs : List ℕ) → without_line_ends xs ≡ [] → journal_records xs ≡ []
 no-records xs none =
     let body : body_of xs ≡ [] = same-mark (section_text xs) ∙ ap (λ (ys : List ℕ). without_mark (without_mark ys)) none ∙ ap without_mark mark-none ∙ mark-none in
     none-left (body_of xs) (ap without_line_ends body)
 
-header-ended : is_ended script_header ≡ true
+pub header-ended : is_ended script_header ≡ true
 unfolding is_ended
 header-ended = refl
 

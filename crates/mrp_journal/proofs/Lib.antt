@@ -8,3 +8,4 @@ pub mod RowsBehind
 pub mod SectionLines
 pub mod Beginnings
 pub mod Restarts
+pub mod NewJournals

@@ -190,7 +190,7 @@ row-record x y ys =
     ∙ ap (λ (rs : List (List (List ℕ))). (x ∷ y ∷ ys) ∷ rs) nothing
 
 -- the records of a journal, as of the table that it is in a bundle
-table-is : (journal : List ℕ) → IsTable journal → table_records journal ≡ journal_records journal
+pub table-is : (journal : List ℕ) → IsTable journal → table_records journal ≡ journal_records journal
 table-is journal h =
     ap (records_in st.StartRecord [] []) (body-behind journal (10 ∷ []) h.ended h.some)
     ∙ records-behind (body_of journal) st.StartRecord [] [] (10 ∷ []) tt (refl, refl) h.takes.between

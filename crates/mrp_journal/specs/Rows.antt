@@ -17,6 +17,14 @@ pub record IsRow (text : List ℕ) : Type 0 where
   pub is : text ≡ first ∷ rest
   pub plain : first ≢ 91
 
+-- two or more cells that are appended as a row
+pub record IsRecord (cells : List (List ℕ)) : Type 0 where
+  pub first : List ℕ
+  pub second : List ℕ
+  pub others : List (List ℕ)
+  pub is : cells ≡ first ∷ second ∷ others
+  pub row : IsRow (row cells)
+
 -- the last byte of a text ends a line
 unfoldable pub is_ended : List ℕ → Bool
 is_ended [] = false

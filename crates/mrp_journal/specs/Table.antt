@@ -44,6 +44,10 @@ pub record TakesRecords (journal : List ℕ) : Type 0 where
   pub no_section : has_section_line journal ≡ false
   pub between : place_behind Between (body_of journal) ≡ Between
 
+-- the names of the columns of the script's table
+abbrev pub script_names : List (List ℕ)
+script_names = codes "desk" ∷ codes "call" ∷ codes "item" ∷ codes "date" ∷ codes "quantity" ∷ codes "number" ∷ []
+
 -- the header of the script's table
 abbrev pub script_header : List ℕ
 script_header = codes "desk,call,item,date,quantity,number\n"

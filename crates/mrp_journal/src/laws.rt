@@ -1,12 +1,12 @@
 //! What follows from the definitions, each law the contract of a function that does nothing.
 
 ghost use Rattle.std.specs.Prelude.{◌≡◌, ◌≤◌, ◌++◌, ◌∷◌, [], ℕ, List, All, length, take};
-ghost use Rattle.std.specs.List.{concat};
+ghost use Rattle.std.specs.List.{concat, flat_map};
 ghost use Rattle.mrp_journal.specs.Held.{IsFront};
 ghost use Rattle.mrp_journal.specs.Journal.{begun};
 ghost use Rattle.mrp_journal.specs.Lines.{IsLine, whole_lines};
-ghost use Rattle.mrp_journal.specs.Rows.{IsRow, IsTable, row};
-ghost use Rattle.mrp_journal.specs.Table.{TakesRecords, header_for, table_records};
+ghost use Rattle.mrp_journal.specs.Rows.{IsRecord, IsRow, IsTable, row};
+ghost use Rattle.mrp_journal.specs.Table.{TakesRecords, header_for, script_header, script_names, table_records};
 
 /// The whole lines of a text.
 pub fn lines()
@@ -40,6 +40,16 @@ pub fn tables()
     ensures takes { (journal x y : List ℕ) (ys : List (List ℕ)) → IsTable journal → IsRow (row (x ∷ y ∷ ys)) → IsTable (journal ++ row (x ∷ y ∷ ys)) }
     ensures records { (journal x y : List ℕ) (ys : List (List ℕ)) → IsTable journal → IsRow (row (x ∷ y ∷ ys))
         → table_records (journal ++ row (x ∷ y ∷ ys)) ≡ table_records journal ++ (x ∷ y ∷ ys) ∷ [] }
+{}
+
+/// A journal that begins in an empty file, and records appended to it as rows of csv.
+pub fn new_journals()
+    // It begins with the header.
+    ensures header { begun [] (header_for (whole_lines [])) ≡ script_header }
+    // It takes records, however many it has.
+    ensures takes { (records : List (List (List ℕ))) → All IsRecord records → IsTable (script_header ++ flat_map row records) }
+    // In a bundle it has the header and these records.
+    ensures records { (records : List (List (List ℕ))) → All IsRecord records → table_records (script_header ++ flat_map row records) ≡ script_names ∷ records }
 {}
 
 /// A journal that a crash has left, begun again.

@@ -30,14 +30,15 @@ fn push_half(bytes: &mut Vec<u8>, more: &[u8])
 }
 
 impl MemoryStore {
-    ghost use Rattle.std.specs.Prelude.{◌≡◌, ◌-◌, IsErr, nat_lt};
+    ghost use Rattle.std.specs.Prelude.{◌≡◌, ◌-◌, ◌<◌, ◌↔◌, IsErr, IsTrue, vec_capacity};
     ghost use Rattle.mrp_rows.specs.Told.{counted};
     ghost use Rattle.mrp_journal.specs.Held.{settled};
-    ghost use Rattle.mrp_journal.specs.Memory.{calls_left, memory_failures, memory_held};
+    ghost use Rattle.mrp_journal.specs.Memory.{calls_left, memory_failures, memory_held, memory_room};
 
     /// A file with these bytes, all durable. Its calls fail after so many.
     pub fn new(bytes: Vec<u8>, calls: u64) -> MemoryStore
         ensures held { memory_held result ≡ settled bytes.items }
+        ensures room { memory_room result ≡ vec_capacity bytes }
         ensures calls { calls_left result ≡ calls }
         ensures failures { memory_failures result ≡ 0 }
     {
@@ -67,6 +68,7 @@ impl MemoryStore {
     // Counts a call that fails.
     fn fail(&mut self) -> Result<(), WriteFault>
         ensures held { memory_held self.new ≡ memory_held self.old }
+        ensures calls { calls_left self.new ≡ calls_left self.old }
         ensures told { memory_failures self.new ≡ counted 1 (memory_failures self.old) }
         ensures fails { IsErr result }
     {
@@ -76,9 +78,10 @@ impl MemoryStore {
 
     // Takes one of the calls that are left; false if none is.
     fn takes_call(&mut self) -> bool
-        ensures takes { result ≡ nat_lt 0 (calls_left self.old) }
+        ensures takes { IsTrue result ↔ (0 < calls_left self.old) }
         ensures fewer { calls_left self.new ≡ calls_left self.old - 1 }
         ensures held { memory_held self.new ≡ memory_held self.old }
+        ensures room { memory_room self.new ≡ memory_room self.old }
         ensures told { memory_failures self.new ≡ memory_failures self.old }
     {
         match self.calls.checked_sub(1) {
@@ -92,14 +95,24 @@ impl MemoryStore {
 }
 
 impl Store for MemoryStore {
-    ghost use Rattle.std.specs.Prelude.{Some};
-    ghost use Rattle.mrp_journal.specs.Memory.{memory_failures, memory_held};
+    ghost use Rattle.std.specs.Prelude.{◌≡◌, ◌≤◌, ◌<◌, ◌-◌, ◌+◌, ◌⊎◌, Some, OnErr, OnOk, length};
+    ghost use Rattle.mrp_journal.specs.Held.{AppendsFront, TellsFailure, appended, cut_to, half_cut, synced};
+    ghost use Rattle.mrp_journal.specs.Memory.{TakesCall, calls_left, memory_failures, memory_held, memory_room};
 
     ghost held = { λ file. Some (memory_held file) };
 
     ghost failures = { memory_failures };
 
-    fn append(&mut self, bytes: &[u8]) -> Result<(), WriteFault> {
+    fn append(&mut self, bytes: &[u8]) -> Result<(), WriteFault>
+        ensures appended { OnOk result (memory_held self.new ≡ appended bytes.now (memory_held self.old)) }
+        ensures front { OnErr result (AppendsFront bytes.now (Some (memory_held self.old)) (Some (memory_held self.new))) }
+        ensures told { TellsFailure (memory_failures self.old) (memory_failures self.new) result }
+        ensures fewer { calls_left self.new ≡ calls_left self.old - 1 }
+        ensures taken { OnOk result (0 < calls_left self.old) }
+
+        // It fails only where no call is left, or there is no memory for the bytes yet.
+        ensures fails { OnErr result ((calls_left self.old ≡ 0) ⊎ (memory_room self.old < length (memory_held self.old).bytes + length bytes.now)) }
+    {
         if !self.takes_call() {
             push_half(&mut self.bytes, bytes);
             return self.fail();
@@ -110,7 +123,12 @@ impl Store for MemoryStore {
         }
     }
 
-    fn sync(&mut self) -> Result<(), WriteFault> {
+    fn sync(&mut self) -> Result<(), WriteFault>
+        ensures synced { OnOk result (memory_held self.new ≡ synced (memory_held self.old)) }
+        ensures same { OnErr result (memory_held self.new ≡ memory_held self.old) }
+        ensures told { TellsFailure (memory_failures self.old) (memory_failures self.new) result }
+        ensures call { TakesCall (calls_left self.old) (calls_left self.new) result }
+    {
         if !self.takes_call() {
             return self.fail();
         }
@@ -118,7 +136,13 @@ impl Store for MemoryStore {
         Ok(())
     }
 
-    fn cut(&mut self, count: usize) -> Result<(), WriteFault> {
+    fn cut(&mut self, count: usize) -> Result<(), WriteFault>
+        requires { count ≤ length (memory_held self.old).bytes }
+        ensures cut { OnOk result (memory_held self.new ≡ cut_to count (memory_held self.old)) }
+        ensures half { OnErr result (memory_held self.new ≡ half_cut count (memory_held self.old)) }
+        ensures told { TellsFailure (memory_failures self.old) (memory_failures self.new) result }
+        ensures call { TakesCall (calls_left self.old) (calls_left self.new) result }
+    {
         if !self.takes_call() {
             self.durable = self.durable.min(count);
             return self.fail();

@@ -115,7 +115,7 @@ where
             },
         ) => {
             let mut place = DeskFolder::new(rt, alloc, &folder);
-            open_desk(rt, alloc, &mut place, workers, input, output, errors)
+            open_desk(rt, rt, alloc, &mut place, workers, input, output, errors)
         }
         asked => {
             let end = carry_out(rt, alloc, rt, asked, input, output);

@@ -1,56 +1,52 @@
 -- How an order desk on a folder ends.
-use Rattle.std.proofs.Common.{◌≡◌, ◌⊎◌, ◌∙◌, ℕ, true, List, Option, Result, Ok, Err, inl, inr, length, subst, sym}
-use Rattle.std.specs.Prelude.{IfErr, IfOk, IsErrAnd, IsTrue, string_bytes}
-use Rattle.std.specs.declared.fs.File.{File}
-use Rattle.mrp_rows.specs.Told.{HasRisenBy}
+use Rattle.std.proofs.Common.{◌≡◌, ◌⊎◌, ◌∙◌, ℕ, true, List, Option, Result, Ok, Err, inl, inr, ap, arith, length, refl, subst, sym}
+use Rattle.std.specs.Prelude.{IfErr, IfOk, IsErrAnd, IsTrue, OnOk, string_bytes}
+use Rattle.mrp_rows.specs.Told.{HasRisenBy, failures_of}
 use Rattle.mrp_rows.specs.declared.told.Told.{Told}
-use Rattle.mrp_journal.specs.File.{failures_told}
-use Rattle.mrp_journal.specs.declared.file.JournalFile.{JournalFile}
+use Rattle.mrp_journal.specs.Held.{Held}
 use Rattle.mrp_tables.specs.Tables.{Tables}
 use Rattle.mrp_script.specs.Script.{script_of}
 use Rattle.mrp_words.specs.Folder.{Known}
-use Rattle.mrp_calls.specs.Desk.{Desk}
 use Rattle.mrp_commands.specs.declared.ending.Ending.{Ending}
-use Rattle.mrp_commands.specs.declared.ending.Ending.TheVariants as ending
-use Rattle.mrp_open.specs.Ends.{FailsToBegin, FailsToStart, FailsWithLock, IsServed, IsUnbegun, ServesOn, TellsEnd, cut_of}
-use Rattle.mrp_open.specs.Opening.{FailsToWrite, HasFailed, IsFailing, IsUntouched, Opening}
-use Rattle.mrp_open.specs.Served.{FailsToRead}
-use Rattle.mrp_open.specs.Start.{AnswersJournal, AreUnchanged, FailsToOpen, HasOtherSum, IsPrepared}
+use Rattle.mrp_open.specs.Ends.{FailsToBegin, FailsToStart, FailsWithLock, IsServed, IsUnbegun, ServesPrepared}
+use Rattle.mrp_open.specs.Opening.{FailsToAnswer, FailsToBeginJournal, FailsToOpenJournal, FailsToServe, FailsToWrite, HasFailed, IsUntouched, IsUnwritten, Opening, with_failure, with_journal}
+use Rattle.mrp_open.specs.Start.{FailsToOpen, HasOtherSum, IsPrepared}
 use Rattle.mrp_open.specs.declared.finding.Found.{Found}
 
-module _ {R W E : Type 0} (opened : Opening) (known : Known) (folder : List ℕ) (remaining : R → Option (List ℕ)) (contents : W → Option (List ℕ)) (heard : E → Option (List ℕ)) (input read : Told R) (output written : Told W) (errors told : Told E) where
-  -- a desk that was opened has answered lines, and told its cut and its end
-  pub is-served : (found : Found) (tables : Tables) (old : Desk) (cut : Option ℕ) (r : Result Ending Ending) → opened.is_held ≡ true → opened.is_lasting ≡ true
-      → IsPrepared known folder found tables → IsTrue found.takes_records → AnswersJournal tables found.room old → AreUnchanged known folder (length old.entries) (string_bytes found.sum) → cut ≡ cut_of found (length old.entries)
-      → IfOk r (λ end. (new : Desk) × ServesOn known folder remaining contents input output written old new end) → IfOk r (TellsEnd heard errors told cut)
-      → IfOk r (λ end. end ≡ ending.Read → FailsToRead input read) → IfOk r (IsServed opened known folder remaining contents heard input read output written errors told)
-  is-served found tables old cut (Err end) held lasting prepared takes answers unchanged is serves tells fails = tt
-  is-served found tables old cut (Ok end) held lasting prepared takes answers unchanged is (new, serves) tells fails = record {
-    held = held;
-    lasting = lasting;
-    found = found;
-    tables = tables;
-    old = old;
-    new = new;
-    prepared = prepared;
-    takes = takes;
-    answers = answers;
-    unchanged = unchanged;
-    serves = serves;
-    fails = fails;
-    tells = subst (λ (c : Option ℕ). TellsEnd heard errors told c end) is tells;
+-- why a desk has ended by a failed write, since nothing had failed before
+pub why-since : {W : Type 0} (first before opened : Opening) (failures count : ℕ) (written : Told W) → before.failures ≡ first.failures → failures ≡ count
+    → FailsToWrite before opened ⊎ FailsToAnswer failures written → FailsToWrite first opened ⊎ FailsToAnswer count written
+why-since first before opened failures count written same is (inl risen) = inl (subst (λ (n : ℕ). HasRisenBy 1 n opened.failures) same risen)
+why-since first before opened failures count written same is (inr failed) = inr (subst (λ (n : ℕ). FailsToAnswer n written) is failed)
+
+module _ {R W E : Type 0} (before opened : Opening) (known : Known) (folder : List ℕ) (remaining : R → Option (List ℕ)) (contents : W → Option (List ℕ)) (heard : E → Option (List ℕ)) (input read : Told R) (output written : Told W) (errors told : Told E) where
+  -- a desk that was opened has answered lines
+  pub is-served : (found : Found) (tables : Tables) (r : Result Ending Ending) → opened.is_held ≡ true → OnOk r (opened.is_lasting ≡ true) → IsPrepared known folder found tables
+      → IfOk r (ServesPrepared known folder found tables remaining contents heard input read output written errors told) → IfOk r (FailsToServe before opened output written)
+      → IfOk r (IsServed before opened known folder remaining contents heard input read output written errors told)
+  is-served found tables (Err end) held lasting prepared serves fails = tt
+  is-served found tables (Ok end) held lasting prepared serves fails =
+      record { held = held; lasting = lasting; found = found; tables = tables; prepared = prepared; serves = serves; fails = fails }
+
+  -- so it has where nothing had failed before
+  pub served-since : (first : Opening) (r : Result Ending Ending) → before.failures ≡ first.failures → IfOk r (IsServed before opened known folder remaining contents heard input read output written errors told)
+      → IfOk r (IsServed first opened known folder remaining contents heard input read output written errors told)
+  served-since first (Err end) same served = tt
+  served-since first (Ok end) same served = record {
+    held = served.held;
+    lasting = served.lasting;
+    found = served.found;
+    tables = served.tables;
+    prepared = served.prepared;
+    serves = served.serves;
+    fails = λ is. why-since first before opened (failures_of output) (failures_of output) written same refl (served.fails is);
   }
 
 -- a journal that was not opened before a folder was locked
 pub untouched-since : (first before opened : Opening) (r : Result Ending Ending) → before.is_opened ≡ first.is_opened → IfErr r (IsUntouched before opened) → IfErr r (IsUntouched first opened)
 untouched-since first before opened (Ok end) same is = tt
-untouched-since first before opened (Err end) same (inl touching) = inl touching
+untouched-since first before opened (Err end) same (inl is) = inl is
 untouched-since first before opened (Err end) same (inr is) = inr (is ∙ same)
-
--- one without memory
-pub no-memory-touching : (before opened : Opening) (r : Result Ending Ending) → IfErr r (λ end. end ≡ ending.NoMemory) → IfErr r (IsUntouched before opened)
-no-memory-touching before opened (Ok end) is = tt
-no-memory-touching before opened (Err end) is = inl (inl is)
 
 -- one that started from the same opening, or from one since which nothing was opened
 pub starts-since : (known : Known) (folder : List ℕ) (first before opened : Opening) (r : Result Ending Ending) → before ≡ first → IfErr r (FailsToStart before opened known folder) → IfErr r (FailsToStart first opened known folder)
@@ -61,21 +57,50 @@ pub passed-on : {T : Type 0} (r : Result T Ending) (end : Ending) (P : Ending �
 passed-on (Ok x) end P is p = tt
 passed-on (Err e) end P is p = subst P (sym is) p
 
--- a journal could not be begun
-pub fails-to-write : {S : Type 0} (failures : S → ℕ) (old new : Opening) → HasFailed old new ⊎ IsFailing failures → FailsToWrite failures old new
-fails-to-write failures old new (inl failed) = inl failed.risen
-fails-to-write failures old new (inr failed) = inr failed
+-- a call has failed
+pub has-failed : (old new : Opening) → new ≡ with_failure old → HasFailed old new
+has-failed old new is =
+    let same : HasFailed old (with_failure old) = record { risen = omega arith; held = refl } in
+    subst (HasFailed old) (sym is) same
 
--- nothing has failed before
-write-since : {S : Type 0} (failures : S → ℕ) (first before opened : Opening) → before.failures ≡ first.failures → FailsToWrite failures before opened → FailsToWrite failures first opened
-write-since failures first before opened same (inl risen) = inl (subst (λ (n : ℕ). HasRisenBy 1 n opened.failures) same risen)
-write-since failures first before opened same (inr failed) = inr failed
+-- one has failed behind a journal that was opened
+pub failed-behind : (old opened new : Opening) → opened ≡ with_journal old → HasFailed opened new → HasFailed old new
+failed-behind old opened new is failed = subst (λ (o : Opening). HasFailed o new → HasFailed old new) (sym is) (λ (f : HasFailed (with_journal old) new). record { risen = f.risen; held = f.held }) failed
 
--- a journal that was not begun, for another reason
-begin-for : (known : Known) (folder : List ℕ) (found : Found) (tables : Tables) (one other : Type 0) (end : Ending) → (one → other) → FailsToBegin known folder found tables one end → FailsToBegin known folder found tables other end
-begin-for known folder found tables one other end so (inl takes) = inl takes
-begin-for known folder found tables one other end so (inr (takes, inl sum)) = inr (takes, inl sum)
-begin-for known folder found tables one other end so (inr (takes, inr (is, failed))) = inr (takes, inr (is, so failed))
+-- a journal that was not begun
+module _ (found : Found) (old new : Opening) (before after : Option Held) where
+  -- as it was not opened
+  pub unopened-journal : (end : Ending) → FailsToOpenJournal old new end → after ≡ before → FailsToBeginJournal found old new before after end
+  unopened-journal end (inl (is, same)) left = inl (is, same, left)
+  unopened-journal end (inr (is, failed)) left = inr (is, failed, inl left)
+
+  -- its folder is locked as it was
+  pub held-unbegun : (end : Ending) → FailsToBeginJournal found old new before after end → new.is_held ≡ old.is_held
+  held-unbegun end (inl (is, same, left)) = ap (λ (o : Opening). o.is_held) same
+  held-unbegun end (inr (is, failed, left)) = failed.held
+
+  -- it was not opened, unless a write has failed
+  pub untouched-unbegun : (end : Ending) → FailsToBeginJournal found old new before after end → IsUntouched old new end
+  untouched-unbegun end (inl (is, same, left)) = inr (ap (λ (o : Opening). o.is_opened) same)
+  untouched-unbegun end (inr (is, failed, left)) = inl is
+
+  -- and it is as it was
+  pub unwritten-unbegun : (end : Ending) → FailsToBeginJournal found old new before after end → IsUnwritten found before after end
+  unwritten-unbegun end (inl (is, same, left)) = inl left
+  unwritten-unbegun end (inr (is, failed, inl left)) = inl left
+  unwritten-unbegun end (inr (is, failed, inr safe)) = inr (is, safe)
+
+  -- so its desk is not begun
+  pub desk-unbegun : (known : Known) (folder : List ℕ) (tables : Tables) (end : Ending) → IsTrue found.takes_records → FailsToBeginJournal found old new before after end
+      → FailsToBegin old new known folder found tables end
+  desk-unbegun known folder tables end takes (inl (is, same, left)) = inl (inr is)
+  desk-unbegun known folder tables end takes (inr (is, failed, left)) = inr (takes, inr (is, failed.risen))
+
+-- a desk is not begun whose tables have another sum
+pub other-sum : (before opened : Opening) (known : Known) (folder : List ℕ) (found : Found) (tables : Tables) (records : ℕ) (end : Ending) → IsTrue found.takes_records → records ≡ length (script_of tables)
+    → HasOtherSum known folder records (string_bytes found.sum) end → FailsToBegin before opened known folder found tables end
+other-sum before opened known folder found tables records end takes count other =
+    inr (takes, inl (subst (λ (n : ℕ). HasOtherSum known folder n (string_bytes found.sum) end) count other))
 
 module _ (known : Known) (folder : List ℕ) where
   module _ (before opened : Opening) where
@@ -84,24 +109,22 @@ module _ (known : Known) (folder : List ℕ) where
     not-opened end held fails = record { held = held; fails = inl fails }
 
     -- one that did not begin
-    pub not-begun : (found : Found) (tables : Tables) (end : Ending) → opened.is_held ≡ true → IsPrepared known folder found tables
-        → FailsToBegin known folder found tables (FailsToWrite (λ (file : JournalFile File). failures_told file) before opened) end → FailsWithLock before opened known folder end
-    not-begun found tables end held prepared fails = record { held = held; fails = inr (found, tables, prepared, fails) }
+    pub not-begun : (found : Found) (tables : Tables) (r : Result Ending Ending) → opened.is_held ≡ true → IsPrepared known folder found tables
+        → IfErr r (FailsToBegin before opened known folder found tables) → IfErr r (FailsWithLock before opened known folder)
+    not-begun found tables (Ok end) held prepared fails = tt
+    not-begun found tables (Err end) held prepared fails = record { held = held; fails = inr (found, tables, prepared, fails) }
 
-    -- one without memory
-    pub no-memory : (r : Result Ending Ending) → opened.is_held ≡ true → IfErr r (λ end. end ≡ ending.NoMemory) → IfErr r (FailsWithLock before opened known folder)
-    no-memory (Ok end) held is = tt
-    no-memory (Err end) held is = record { held = held; fails = inl (inr (inr is)) }
+    -- nothing has failed before
+    begin-since : (first : Opening) (found : Found) (tables : Tables) (end : Ending) → before.failures ≡ first.failures → FailsToBegin before opened known folder found tables end
+        → FailsToBegin first opened known folder found tables end
+    begin-since first found tables end same (inl takes) = inl takes
+    begin-since first found tables end same (inr (takes, inl sum)) = inr (takes, inl sum)
+    begin-since first found tables end same (inr (takes, inr (is, failed))) = inr (takes, inr (is, subst (λ (n : ℕ). HasRisenBy 1 n opened.failures) same failed))
 
-    -- why, since nothing has failed
-    fails-since : (first : Opening) (end : Ending) → before.failures ≡ first.failures → FailsToOpen known folder end ⊎ IsUnbegun known folder (FailsToWrite (λ (file : JournalFile File). failures_told file) before opened) end
-        → FailsToOpen known folder end ⊎ IsUnbegun known folder (FailsToWrite (λ (file : JournalFile File). failures_told file) first opened) end
+    fails-since : (first : Opening) (end : Ending) → before.failures ≡ first.failures → FailsToOpen known folder end ⊎ IsUnbegun before opened known folder end → FailsToOpen known folder end ⊎ IsUnbegun first opened known folder end
     fails-since first end same (inl unopened) = inl unopened
-    fails-since first end same (inr (found, tables, prepared, begins)) =
-        let failures = λ (file : JournalFile File). failures_told file in
-        inr (found, tables, prepared, begin-for known folder found tables (FailsToWrite failures before opened) (FailsToWrite failures first opened) end (write-since failures first before opened same) begins)
+    fails-since first end same (inr (found, tables, prepared, begins)) = inr (found, tables, prepared, begin-since first found tables end same begins)
 
-    -- the same since nothing has failed
     lock-since : (first : Opening) (end : Ending) → before.failures ≡ first.failures → FailsWithLock before opened known folder end → FailsWithLock first opened known folder end
     lock-since first end same with_lock = record { held = with_lock.held; fails = fails-since first end same with_lock.fails }
 
@@ -109,14 +132,3 @@ module _ (known : Known) (folder : List ℕ) where
     pub with-lock : (first : Opening) (r : Result Ending Ending) → before.failures ≡ first.failures → IfErr r (IsUntouched first opened) → IfErr r (FailsWithLock before opened known folder) → IfErr r (FailsToStart first opened known folder)
     with-lock first (Ok end) same untouched fails = tt
     with-lock first (Err end) same untouched fails = record { untouched = untouched; fails = inr (lock-since first end same fails) }
-
-  module _ (found : Found) (tables : Tables) (failed : Type 0) where
-    -- one whose journal could not be opened or written
-    pub unwritten : (end : Ending) → IsTrue found.takes_records → (end ≡ ending.NoMemory) ⊎ (end ≡ ending.Write) → (end ≡ ending.Write → failed) → FailsToBegin known folder found tables failed end
-    unwritten end takes (inl is) fails = inl (inr is)
-    unwritten end takes (inr is) fails = inr (takes, inr (is, fails is))
-
-    -- one whose tables have another sum
-    pub other-sum : (records : ℕ) (end : Ending) → IsTrue found.takes_records → records ≡ length (script_of tables) → HasOtherSum known folder records (string_bytes found.sum) end → FailsToBegin known folder found tables failed end
-    other-sum records end takes count other =
-        inr (takes, inl (subst (λ (n : ℕ). HasOtherSum known folder n (string_bytes found.sum) end) count other))

@@ -36,10 +36,10 @@ module _ {N : Type 0} (contents : N → Option (List ℕ)) where
     pub makes-run : (run : Run) (sound failed : ℕ) (named next : Option (List Named)) (notes told : Told N) (made : Result (Option Refusal) (MakeFault P))
         → ((before : History) → IsRunAfter tables before run → IfOk made (λ outcome. KeepsFile tables before run outcome named next))
         → ((before : History) → IsRunAfter tables before run → OnErr made (MayKeepFile tables before run named next))
-        → IfErr made (FailsToMake sound failed) → TellsNote contents run (note_of made) notes told → MakesRun P contents tables run sound failed named next notes told
-    makes-run run sound failed named next notes told (Ok None) kept either fails tells = inl (None, kept, tells)
-    makes-run run sound failed named next notes told (Ok (Some why)) kept either fails tells = inl (Some why, kept, tells)
-    makes-run run sound failed named next notes told (Err why) kept either fails tells = inr (either, (why, fails, tells))
+        → OnOk made (failed ≡ sound) → IfErr made (FailsToMake sound failed) → TellsNote contents run (note_of made) notes told → MakesRun P contents tables run sound failed named next notes told
+    makes-run run sound failed named next notes told (Ok None) kept either same fails tells = inl (same, (None, kept, tells))
+    makes-run run sound failed named next notes told (Ok (Some why)) kept either same fails tells = inl (same, (Some why, kept, tells))
+    makes-run run sound failed named next notes told (Err why) kept either same fails tells = inr (either, (why, fails, tells))
 
     -- no run came yet
     pub makes-none : (runs : Option (List Run)) (sound : ℕ) (named : Option (List Named)) (notes : Told N) → MakesFirst P contents tables runs runs sound sound named named notes notes

@@ -1,5 +1,5 @@
 -- The runs of a legal history are handed over.
-use Rattle.std.proofs.Common.{◌≡◌, ◌∙◌, ℕ, ◌+◌, ◌<◌, List, [], ◌∷◌, ◌++◌, Option, length, take, get_or, refl, subst, sym, ap}
+use Rattle.std.proofs.Common.{◌≡◌, ◌∙◌, ℕ, ◌+◌, ◌<◌, false, List, [], ◌∷◌, ◌++◌, Option, inl, inr, length, take, get_or, subst, sym, ap, ap₂}
 use Rattle.std.specs.List.{All, FoldsTo}
 use Rattle.std.proofs.lemmas.Fn.{FoldsTo-push}
 use Rattle.std.proofs.lemmas.List.{get_or_default, take_more}
@@ -9,15 +9,13 @@ use Rattle.mrp_turn.specs.declared.log.Entry.{Entry}
 use Rattle.mrp_master.specs.Supply.{supply_of}
 use Rattle.mrp_book.specs.declared.call.Call.{Call}
 use Rattle.mrp_book.specs.declared.reply.Reply.{Reply}
-use Rattle.mrp_book.specs.declared.reply.Reply.TheVariants as reply
 use Rattle.mrp_book.specs.History.{IsLegal}
 use Rattle.mrp_book.specs.Standing.{History}
 use Rattle.mrp_runs.proofs.Histories.{run-of}
 use Rattle.mrp_runs.specs.File.{IsRun}
 use Rattle.mrp_runs.specs.declared.run.Run.{Run}
-use Rattle.mrp_book.specs.Snapshot.{Snapshot}
-use Rattle.mrp_words.specs.Folder.{Known}
-use Rattle.mrp_open.specs.Runs.{HandsMissing, HandsOver, IsRunOf}
+use Rattle.mrp_words.specs.Folder.{IsThere, Known}
+use Rattle.mrp_open.specs.Runs.{Handed, Hands, HandsUnless, IsRunOf}
 
 -- the runs of a legal history of the shop
 runs-are : (tables : Tables) (h : History) → IsLegal (supply_of tables) h → All (IsRunOf (IsRun tables)) h
@@ -41,28 +39,11 @@ folds-next {P} R a b c h k e folds one within is =
     subst (λ (es : History). FoldsTo R a es c) (sym (take_more h k e within ∙ ap (λ (x : Entry Call Reply). take k h ++ x ∷ []) (sym is)))
     (FoldsTo-push R a (take k h) b e c folds one)
 
--- an entry that is no run
-pub no-run : (r : Reply) (told : Option (List ℕ)) → ((t : Snapshot) → r ≡ reply.Taken t → ⊥) → HandsOver r told told
-no-run (reply.Taken t) told other = absurd (other t refl)
-no-run (reply.Booked number) told other = refl
-no-run (reply.Short available) told other = refl
-no-run reply.Cancelled told other = refl
-no-run reply.NotStanding told other = refl
-no-run reply.NotYours told other = refl
-no-run (reply.Available available) told other = refl
-no-run (reply.Week week) told other = refl
-no-run reply.NoWeek told other = refl
-no-run (reply.Front number) told other = refl
+-- a run whose file is not there is handed over
+pub handed-missing : (known : Known) (path : List ℕ) (front : ℕ) (old new : Handed) → IsThere known path false → Hands front old new → HandsUnless known path front old new
+handed-missing known path front old new absent (inl given) = inl (given, absent)
+handed-missing known path front old new absent (inr missed) = inr (inl missed)
 
--- the same where files are looked for
-pub none-missing : (known : Known) (folder : List ℕ) (r : Reply) (told : Option (List ℕ)) → ((t : Snapshot) → r ≡ reply.Taken t → ⊥) → HandsMissing known folder r told told
-none-missing known folder (reply.Taken t) told other = absurd (other t refl)
-none-missing known folder (reply.Booked number) told other = refl
-none-missing known folder (reply.Short available) told other = refl
-none-missing known folder reply.Cancelled told other = refl
-none-missing known folder reply.NotStanding told other = refl
-none-missing known folder reply.NotYours told other = refl
-none-missing known folder (reply.Available available) told other = refl
-none-missing known folder (reply.Week week) told other = refl
-none-missing known folder reply.NoWeek told other = refl
-none-missing known folder (reply.Front number) told other = refl
+-- takers that were told of the same runs and given the same
+pub same-handed : (a b : Handed) → a.told ≡ b.told → a.given ≡ b.given → a ≡ b
+same-handed a b told given = ap₂ (λ (t g : Option (List ℕ)). let h : Handed = record { told = t; given = g } in h) told given

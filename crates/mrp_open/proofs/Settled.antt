@@ -1,11 +1,13 @@
 -- Batches are settled one after the other.
-use Rattle.std.proofs.Common.{◌≡◌, ◌∙◌, ◌⊎◌, ◌≤◌, ℕ, Bool, true, false, List, [], ◌∷◌, ◌++◌, Option, Some, None, inl, inr, ap, append_assoc, arith, drop, length, length-append, map, refl, subst, sym}
+use Rattle.std.proofs.Common.{◌≡◌, ◌≢◌, ◌∙◌, ◌⊎◌, ◌<◌, ◌≤◌, ℕ, Bool, true, false, List, [], ◌∷◌, ◌++◌, Option, Some, None, inl, inr, ap, append_assoc, arith, drop, length, length-append, map, refl, subst, sym}
 use Rattle.std.proofs.Math.Seq.{drop-append_seam}
 use Rattle.std.proofs.lemmas.List.{append-nil}
 use Rattle.std.specs.Prelude.{IfSome, option_map}
 use Rattle.std.specs.Bool.{MatchBool}
 use Rattle.std.specs.Io.KnownBytes.{Appends, IsAtEnd}
 use Rattle.std.specs.List.{FoldsTo}
+use Rattle.mrp_rows.specs.Told.{HasRisenBy}
+use Rattle.mrp_rows.specs.declared.streams.TheConstants.{WRITE_TRIES}
 use Rattle.mrp_rows.specs.declared.fault.Fault.{Fault}
 use Rattle.mrp_rows.specs.declared.streams.ReadFault.{ReadFault}
 use Rattle.mrp_rows.specs.declared.streams.ReadFault.TheVariants as read
@@ -27,8 +29,10 @@ use Rattle.std.specs.Prelude.{Result, Ok, Err}
 use Rattle.mrp_commands.specs.Refusal.{end_of_read}
 use Rattle.mrp_commands.specs.declared.ending.Ending.{Ending}
 use Rattle.mrp_commands.specs.declared.ending.Ending.TheVariants as ending
-use Rattle.mrp_open.specs.Runs.{HandsOver, HandsOverAll}
-use Rattle.mrp_open.specs.Served.{Advances, BringsLines, Fails, HandsMore, IsBatchEnd, IsServingEnd, Serves, Settles, SettlesRuns, Stand, StopsAt}
+use Rattle.mrp_words.specs.Folder.{Known}
+use Rattle.mrp_open.specs.Runs.{Handed, HandsOver, HandsOverAll}
+use Rattle.mrp_open.proofs.Failing.{read-fault}
+use Rattle.mrp_open.specs.Served.{Advances, BringsLines, Fails, FailsToRead, FailsToSettle, HandsMore, IsServingEnd, MakesUp, Serves, Settles, SettlesRuns, Source, Stand, Stops, StopsAt}
 
 -- What lines do to a desk.
 
@@ -113,7 +117,8 @@ kept-both (Some h) b c r s p q = q ∙ ap (option_map (with_more s)) p ∙ ap (�
 
 -- no line is settled yet
 settles-none : (old : Stand) → IfSome old.journal IsSettled → Settles [] old old
-settles-none old is = record { answers = []; records = []; answered = (refl, refl, refl); kept = kept-none old.journal is; told = appends-none old.output }
+settles-none old is =
+    record { answers = []; records = []; answered = (refl, refl, refl); kept = kept-none old.journal is; told = appends-none old.output; sound = refl; clear = refl }
 
 -- lines are settled, and then more
 settles-both : (one two : List (List ℕ)) (old mid new : Stand) → Settles one old mid → Settles two mid new → Settles (one ++ two) old new
@@ -123,34 +128,36 @@ settles-both one two old mid new p q = record {
   answered = answers-both one two old.desk mid.desk new.desk p.answers q.answers p.records q.records p.answered q.answered;
   kept = kept-both old.journal mid.journal new.journal p.records q.records p.kept q.kept;
   told = appends-both old.output mid.output new.output p.answers q.answers p.told q.told;
+  sound = q.sound ∙ p.sound;
+  clear = q.clear ∙ p.clear;
 }
 
 durable-kept : (a b : Option Held) (records : List ℕ) → b ≡ option_map (with_more records) a → IfSome b IsSettled
 durable-kept None b records e = subst (λ (x : Option Held). IfSome x IsSettled) (sym e) tt
 durable-kept (Some h) b records e = subst (λ (x : Option Held). IfSome x IsSettled) (sym e) refl
 
--- Runs that are told.
+-- Runs that are handed over.
 
 folds-both : {P A : Type 0} (R : P → A → P → Type 0) (a : P) (xs : List A) (b : P) (ys : List A) (c : P) → FoldsTo R a xs b → FoldsTo R b ys c → FoldsTo R a (xs ++ ys) c
 folds-both {P} R a [] b ys c p q = subst (λ (v : P). FoldsTo R v ys c) (sym p) q
 folds-both R a (x ∷ xs) b ys c (next, one, rest) q = (next, one, folds-both R next xs b ys c rest q)
 
 -- the entries that a desk has made since
-pub hands-since : (old new : Desk) (told_old told_new : Option (List ℕ)) → Grows old new → HandsOverAll (drop (length old.entries) new.entries) told_old told_new → HandsMore old.entries new.entries told_old told_new
-hands-since old new told_old told_new g h = record {
+pub hands-since : (old new : Desk) (handed_old handed_new : Handed) → Grows old new → HandsOverAll (drop (length old.entries) new.entries) handed_old handed_new → HandsMore old.entries new.entries handed_old handed_new
+hands-since old new handed_old handed_new g h = record {
   more = g.more;
   is = g.is;
-  handed = subst (λ (es : History). HandsOverAll es told_old told_new) (ap (drop (length old.entries)) g.is ∙ drop-append_seam old.entries g.more) h;
+  handed = subst (λ (es : History). HandsOverAll es handed_old handed_new) (ap (drop (length old.entries)) g.is ∙ drop-append_seam old.entries g.more) h;
 }
 
-pub hands-none : (h : History) (told : Option (List ℕ)) → HandsMore h h told told
-hands-none h told = record { more = []; is = sym (append-nil h); handed = refl }
+pub hands-none : (h : History) (handed : Handed) → HandsMore h h handed handed
+hands-none h handed = record { more = []; is = sym (append-nil h); handed = refl }
 
-hands-both : (old mid new : History) (a b c : Option (List ℕ)) → HandsMore old mid a b → HandsMore mid new b c → HandsMore old new a c
+hands-both : (old mid new : History) (a b c : Handed) → HandsMore old mid a b → HandsMore mid new b c → HandsMore old new a c
 hands-both old mid new a b c p q = record {
   more = p.more ++ q.more;
   is = q.is ∙ ap (λ (h : History). h ++ q.more) p.is ∙ append_assoc old p.more q.more;
-  handed = folds-both (λ (told : Option (List ℕ)) (e : Entry Call Reply) (next : Option (List ℕ)). HandsOver e.reply told next) a p.more b q.more c p.handed q.handed;
+  handed = folds-both (λ (handed : Handed) (e : Entry Call Reply) (next : Handed). HandsOver e.reply handed next) a p.more b q.more c p.handed q.handed;
 }
 
 -- Lines that come.
@@ -184,41 +191,43 @@ brings-rest b1 b2 (Some x) (Some y) lines h = h
 -- An order desk goes on, and stops.
 
 -- nothing was read yet
-pub advances-none : (given : Option (List ℕ)) (old : Stand) (told : Option (List ℕ)) → IfSome old.journal IsSettled → Advances [] given [] given old old told told
-advances-none given old told is = record { lines = []; brings = brings-none given; settles = record { settled = settles-none old is; handed = hands-none old.desk.entries told } }
+pub advances-none : (given : Source) (old : Stand) (handed : Handed) → IfSome old.journal IsSettled → Advances [] given [] given old old handed handed
+advances-none given old handed is =
+    record { lines = []; brings = brings-none given.left; heard = refl; settles = record { settled = settles-none old is; handed = hands-none old.desk.entries handed } }
 
 -- one batch more
-pub advances-both : (b1 b2 b3 : List ℕ) (g1 g2 g3 : Option (List ℕ)) (old mid new : Stand) (t1 t2 t3 : Option (List ℕ))
-    → Advances b1 g1 b2 g2 old mid t1 t2 → Advances b2 g2 b3 g3 mid new t2 t3 → Advances b1 g1 b3 g3 old new t1 t3
-advances-both b1 b2 b3 g1 g2 g3 old mid new t1 t2 t3 p q = record {
+pub advances-both : (b1 b2 b3 : List ℕ) (s1 s2 s3 : Source) (old mid new : Stand) (h1 h2 h3 : Handed)
+    → Advances b1 s1 b2 s2 old mid h1 h2 → Advances b2 s2 b3 s3 mid new h2 h3 → Advances b1 s1 b3 s3 old new h1 h3
+advances-both b1 b2 b3 s1 s2 s3 old mid new h1 h2 h3 p q = record {
   lines = p.lines ++ q.lines;
-  brings = brings-both b1 b2 b3 g1 g2 g3 p.lines q.lines p.brings q.brings;
+  brings = brings-both b1 b2 b3 s1.left s2.left s3.left p.lines q.lines p.brings q.brings;
+  heard = q.heard ∙ p.heard;
   settles = record {
     settled = settles-both p.lines q.lines old mid new p.settles.settled q.settles.settled;
-    handed = hands-both old.desk.entries mid.desk.entries new.desk.entries t1 t2 t3 p.settles.handed q.settles.handed;
+    handed = hands-both old.desk.entries mid.desk.entries new.desk.entries h1 h2 h3 p.settles.handed q.settles.handed;
   };
 }
 
 -- what was settled is durable
-pub advances-durable : (b1 b2 : List ℕ) (g1 g2 : Option (List ℕ)) (old new : Stand) (t1 t2 : Option (List ℕ)) → Advances b1 g1 b2 g2 old new t1 t2 → IfSome new.journal IsSettled
-advances-durable b1 b2 g1 g2 old new t1 t2 p = durable-kept old.journal new.journal p.settles.settled.records p.settles.settled.kept
+pub advances-durable : (b1 b2 : List ℕ) (s1 s2 : Source) (old new : Stand) (h1 h2 : Handed) → Advances b1 s1 b2 s2 old new h1 h2 → IfSome new.journal IsSettled
+advances-durable b1 b2 s1 s2 old new h1 h2 p = durable-kept old.journal new.journal p.settles.settled.records p.settles.settled.kept
 
 -- the tables stay
-pub advances-tables : (b1 b2 : List ℕ) (g1 g2 : Option (List ℕ)) (old new : Stand) (t1 t2 : Option (List ℕ)) → Advances b1 g1 b2 g2 old new t1 t2 → new.desk.tables ≡ old.desk.tables
-advances-tables b1 b2 g1 g2 old new t1 t2 p =
+pub advances-tables : (b1 b2 : List ℕ) (s1 s2 : Source) (old new : Stand) (h1 h2 : Handed) → Advances b1 s1 b2 s2 old new h1 h2 → new.desk.tables ≡ old.desk.tables
+advances-tables b1 b2 s1 s2 old new h1 h2 p =
     let g : Grows old.desk new.desk = grows p.lines old.desk new.desk p.settles.settled.answers p.settles.settled.records p.settles.settled.answered in
     g.same
 
--- a batch was settled, and the runs behind the entries before were told
-pub settles-runs : (lines : List (List ℕ)) (old new : Stand) (t1 t2 : Option (List ℕ)) → Settles lines old new → HandsOverAll (drop (length old.desk.entries) new.desk.entries) t1 t2 → SettlesRuns lines old new t1 t2
-settles-runs lines old new t1 t2 s h =
-    record { settled = s; handed = hands-since old.desk new.desk t1 t2 (grows lines old.desk new.desk s.answers s.records s.answered) h }
+-- a batch was settled, and the runs behind the entries before were handed over
+pub settles-runs : (lines : List (List ℕ)) (old new : Stand) (h1 h2 : Handed) → Settles lines old new → HandsOverAll (drop (length old.desk.entries) new.desk.entries) h1 h2 → SettlesRuns lines old new h1 h2
+settles-runs lines old new h1 h2 s h =
+    record { settled = s; handed = hands-since old.desk new.desk h1 h2 (grows lines old.desk new.desk s.answers s.records s.answered) h }
 
 -- a batch was read and settled
-pub advances-batch : (old_intake new_intake : Taken) (before after : Option (List ℕ)) (old new : Stand) (t1 t2 : Option (List ℕ))
-    → BringsKnown old_intake new_intake before after → SettlesRuns (told_lines new_intake.batch) old new t1 t2 → Advances old_intake.begun before new_intake.begun after old new t1 t2
-advances-batch old_intake new_intake before after old new t1 t2 b s =
-    record { lines = told_lines new_intake.batch; brings = brings-batch old_intake new_intake before after b; settles = s }
+pub advances-batch : (old_intake new_intake : Taken) (given left : Source) (old new : Stand) (h1 h2 : Handed) → BringsKnown old_intake new_intake given.left left.left → left.failures ≡ given.failures
+    → SettlesRuns (told_lines new_intake.batch) old new h1 h2 → Advances old_intake.begun given new_intake.begun left old new h1 h2
+advances-batch old_intake new_intake given left old new h1 h2 b heard s =
+    record { lines = told_lines new_intake.batch; brings = brings-batch old_intake new_intake given.left left.left b; heard = heard; settles = s }
 
 -- the input has ended
 lines-none : lines_of [] ≡ []
@@ -234,13 +243,16 @@ ended old new (Some x) (Some y) h batch begun at =
     let rest : told_lines (new.begun ++ y) ≡ [] = ap (λ (b : List ℕ). told_lines (b ++ y)) begun ∙ ap told_lines at ∙ none in
     h ∙ ap (λ (ls : List (List ℕ)). ls ++ told_lines (new.begun ++ y)) read ∙ rest
 
-pub stops-done : (old_intake new_intake : Taken) (before after : Option (List ℕ)) (old : Stand)
-    → BringsKnown old_intake new_intake before after → new_intake.batch ≡ [] → new_intake.begun ≡ [] → IsAtEnd after → StopsAt old_intake.begun before old old ending.Done
-stops-done old_intake new_intake before after old b batch begun at = record {
+pub stops-done : (old_intake new_intake : Taken) (given left : Source) (old : Stand)
+    → BringsKnown old_intake new_intake given.left left.left → new_intake.batch ≡ [] → new_intake.begun ≡ [] → IsAtEnd left.left → left.failures ≡ given.failures
+    → StopsAt old_intake.begun given left old old ending.Done
+stops-done old_intake new_intake given left old b batch begun at heard = record {
   lines = [];
   rest = [];
-  given_are = ended old_intake new_intake before after b batch begun at;
-  stopped = inl refl;
+  given_are = ended old_intake new_intake given.left left.left b batch begun at;
+  stopped = inl (λ (e : ending.Done ≡ ending.Write). cc, refl);
+  fails = λ (e : ending.Done ≡ ending.Read). absurd cc;
+  clear = λ other. heard;
   all = λ _. (refl, refl, refl);
   ends = inl refl;
 }
@@ -249,36 +261,75 @@ left-all : (begun : List ℕ) (given : Option (List ℕ)) → IfSome given (λ t
 left-all begun None = tt
 left-all begun (Some text) = refl
 
-serving-read : (fault : ReadFault) (end : Ending) → end ≡ end_of_read fault → IsServingEnd end × (end ≡ ending.Done → ⊥)
-serving-read read.Read end is = (inr (inr (inl is)), λ (done : end ≡ ending.Done). cc)
-serving-read read.NoMemory end is = (inr (inl is), λ (done : end ≡ ending.Done). cc)
+-- what the fault of a read is
+record IsReadEnd (end : Ending) : Type 0 where
+  serving : IsServingEnd end
+  not_done : end ≡ ending.Done → ⊥
+  not_write : end ≡ ending.Write → ⊥
 
--- a read has failed
-pub stops-read : (begun : List ℕ) (given : Option (List ℕ)) (old : Stand) (fault : ReadFault) (end : Ending) → end ≡ end_of_read fault → StopsAt begun given old old end
-stops-read begun given old fault end is = record {
-  lines = [];
-  rest = left_lines begun given;
-  given_are = left-all begun given;
-  stopped = inl refl;
-  all = λ done. absurd ((serving-read fault end is).1 done);
-  ends = (serving-read fault end is).0;
+read-end : (fault : ReadFault) (end : Ending) → end ≡ end_of_read fault → IsReadEnd end
+read-end read.Read end is =
+    record { serving = inr (inr (inl is)); not_done = λ (done : end ≡ ending.Done). cc; not_write = λ (write : end ≡ ending.Write). cc }
+read-end read.NoMemory end is =
+    record { serving = inr (inl is); not_done = λ (done : end ≡ ending.Done). cc; not_write = λ (write : end ≡ ending.Write). cc }
+
+-- where a read has not failed, there was no memory
+clear-read : (fault : ReadFault) (end : Ending) (given left : Source) → end ≡ end_of_read fault → (fault ≡ read.NoMemory → left.failures ≡ given.failures) → end ≢ ending.Read → left.failures ≡ given.failures
+clear-read read.Read end given left is heard other = absurd (other is)
+clear-read read.NoMemory end given left is heard other = heard refl
+
+-- a read has failed, or there was no memory
+pub stops-read : (begun : List ℕ) (given left : Source) (old : Stand) (fault : ReadFault) (end : Ending) → end ≡ end_of_read fault → (fault ≡ read.Read → FailsToRead given left)
+    → (fault ≡ read.NoMemory → left.failures ≡ given.failures) → StopsAt begun given left old old end
+stops-read begun given left old fault end is fails heard =
+    let ended_by = read-end fault end is in
+    record {
+      lines = [];
+      rest = left_lines begun given.left;
+      given_are = left-all begun given.left;
+      stopped = inl (ended_by.not_write, refl);
+      fails = λ e. fails (read-fault fault end is e);
+      clear = clear-read fault end given left is heard;
+      all = λ done. absurd (ended_by.not_done done);
+      ends = ended_by.serving;
+    }
+
+-- what the end of a batch that was not settled is
+record IsBatchEnd (lines : List (List ℕ)) (old new : Stand) (end : Ending) : Type 0 where
+  serving : IsServingEnd end
+  not_done : end ≡ ending.Done → ⊥
+  not_read : end ≡ ending.Read → ⊥
+  stopped : Stops lines old new end
+
+batch-end : (lines : List (List ℕ)) (old new : Stand) (end : Ending) → Fails lines old new end → IsBatchEnd lines old new end
+batch-end lines old new end (inl (is, same)) = record {
+  serving = inr (inl is);
+  not_done = λ (done : end ≡ ending.Done). cc;
+  not_read = λ (read : end ≡ ending.Read). cc;
+  stopped = inl (λ (write : end ≡ ending.Write). cc, same);
 }
-
-serving-batch : (end : Ending) → IsBatchEnd end → IsServingEnd end × (end ≡ ending.Done → ⊥)
-serving-batch end (inl is) = (inr (inl is), λ (done : end ≡ ending.Done). cc)
-serving-batch end (inr is) = (inr (inr (inr is)), λ (done : end ≡ ending.Done). cc)
+batch-end lines old new end (inr (is, breaks)) = record {
+  serving = inr (inr (inr is));
+  not_done = λ (done : end ≡ ending.Done). cc;
+  not_read = λ (read : end ≡ ending.Read). cc;
+  stopped = inr (is, breaks);
+}
 
 -- a batch was not settled
-pub stops-batch : (old_intake new_intake : Taken) (before after : Option (List ℕ)) (old new : Stand) (end : Ending)
-    → BringsKnown old_intake new_intake before after → Fails (told_lines new_intake.batch) old new end → StopsAt old_intake.begun before old new end
-stops-batch old_intake new_intake before after old new end b s = record {
-  lines = told_lines new_intake.batch;
-  rest = left_lines new_intake.begun after;
-  given_are = brings-rest old_intake.begun new_intake.begun before after (told_lines new_intake.batch) (brings-batch old_intake new_intake before after b);
-  stopped = s.stopped;
-  all = λ done. absurd ((serving-batch end s.ends).1 done);
-  ends = (serving-batch end s.ends).0;
-}
+pub stops-batch : (old_intake new_intake : Taken) (given left : Source) (old new : Stand) (end : Ending)
+    → BringsKnown old_intake new_intake given.left left.left → left.failures ≡ given.failures → Fails (told_lines new_intake.batch) old new end → StopsAt old_intake.begun given left old new end
+stops-batch old_intake new_intake given left old new end b heard fails =
+    let ended_by = batch-end (told_lines new_intake.batch) old new end fails in
+    record {
+      lines = told_lines new_intake.batch;
+      rest = left_lines new_intake.begun left.left;
+      given_are = brings-rest old_intake.begun new_intake.begun given.left left.left (told_lines new_intake.batch) (brings-batch old_intake new_intake given.left left.left b);
+      stopped = ended_by.stopped;
+      fails = λ read. absurd (ended_by.not_read read);
+      clear = λ other. heard;
+      all = λ done. absurd (ended_by.not_done done);
+      ends = ended_by.serving;
+    }
 
 given-both : (begun : List ℕ) (given left : Option (List ℕ)) (lines more rest : List (List ℕ)) → BringsLines [] given lines begun left → IfSome left (λ text. told_lines (begun ++ text) ≡ more ++ rest)
     → IfSome given (λ text. told_lines text ≡ lines ++ (more ++ rest))
@@ -287,16 +338,20 @@ given-both begun (Some x) None lines more rest p q = absurd p
 given-both begun (Some x) (Some y) lines more rest p q = p ∙ ap (λ (ls : List (List ℕ)). lines ++ ls) q
 
 -- an order desk went on, and then stopped
-pub serves : (given left : Option (List ℕ)) (begun : List ℕ) (old between new : Stand) (told_old told_new : Option (List ℕ)) (end : Ending)
-    → Advances [] given begun left old between told_old told_new → StopsAt begun left between new end → Serves given old new told_old told_new end
-serves given left begun old between new told_old told_new end p q = record {
+pub serves : (given waiting left : Source) (begun : List ℕ) (old between new : Stand) (handed_old handed_new : Handed) (end : Ending)
+    → Advances [] given begun waiting old between handed_old handed_new → StopsAt begun waiting left between new end → Serves given left old new handed_old handed_new end
+serves given waiting left begun old between new handed_old handed_new end p q = record {
   lines = p.lines;
   more = q.lines;
   rest = q.rest;
+  waiting = waiting;
   between = between;
+  given_are = given-both begun given.left waiting.left p.lines q.lines q.rest p.brings q.given_are;
+  heard = p.heard;
   settles = p.settles;
   stopped = q.stopped;
-  given_are = given-both begun given left p.lines q.lines q.rest p.brings q.given_are;
+  fails = q.fails;
+  clear = q.clear;
   all = q.all;
   ends = q.ends;
 }
@@ -312,3 +367,17 @@ pub same-tables : (lines : List (List ℕ)) (old new : Stand) → Settles lines 
 same-tables lines old new s =
     let g : Grows old.desk new.desk = grows lines old.desk new.desk s.answers s.records s.answered in
     g.same
+
+-- where a desk has ended by a failed write, a call of its journal has failed, or one of its output, or that was interrupted too often
+pub broke : (known : Known) (folder : List ℕ) (given left : Source) (old new : Stand) (h1 h2 : Handed) (end : Ending) → MakesUp known folder given left old new h1 h2 end → end ≡ ending.Write
+    → (0 < new.journal_failures) ⊎ (HasRisenBy 1 old.output_failures new.output_failures ⊎ (WRITE_TRIES ≤ new.output_interrupted))
+broke known folder given left old new h1 h2 end (handed, missing, s) is = by s.stopped
+  where
+    from : FailsToSettle s.between new → (0 < new.journal_failures) ⊎ (HasRisenBy 1 old.output_failures new.output_failures ⊎ (WRITE_TRIES ≤ new.output_interrupted))
+    from (inl up) = inl (omega (arith, up))
+    from (inr (inl up)) = inr (inl (subst (λ (n : ℕ). HasRisenBy 1 n new.output_failures) s.settles.settled.clear up))
+    from (inr (inr more)) = inr (inr (omega (arith, more)))
+
+    by : Stops s.more s.between new end → (0 < new.journal_failures) ⊎ (HasRisenBy 1 old.output_failures new.output_failures ⊎ (WRITE_TRIES ≤ new.output_interrupted))
+    by (inl (other, same)) = absurd (other is)
+    by (inr (write, breaks)) = from breaks.fails

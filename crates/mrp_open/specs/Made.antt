@@ -39,9 +39,9 @@ abbrev pub LacksFile : (P : Type 0) {N : Type 0} → (N → Option (List ℕ)) �
 LacksFile P contents tables run sound failed named next notes told =
     ((before : History) → IsRunAfter tables before run → MayKeepFile tables before run named next) × ((why : MakeFault P) × FailsToMake sound failed why × TellsNote contents run (note_of (Err why)) notes told)
 
--- the file of a run is made, or it is told why it is not
+-- the file of a run is made, and no call of its folder failed; or it is told why it is not
 abbrev pub MakesRun : (P : Type 0) {N : Type 0} → (N → Option (List ℕ)) → Tables → Run → ℕ → ℕ → Option (List Named) → Option (List Named) → Told N → Told N → Type 0
-MakesRun P contents tables run sound failed named next notes told = GetsFile contents tables run named next notes told ⊎ LacksFile P contents tables run sound failed named next notes told
+MakesRun P contents tables run sound failed named next notes told = ((failed ≡ sound) × GetsFile contents tables run named next notes told) ⊎ LacksFile P contents tables run sound failed named next notes told
 
 -- the same of runs, one after the other
 abbrev pub MakesEach : (P : Type 0) {N : Type 0} → (N → Option (List ℕ)) → Tables → List Run → ℕ → ℕ → Option (List Named) → Option (List Named) → Told N → Told N → Type 0

@@ -1,34 +1,74 @@
 -- What an order desk has done with the lines of its input (profile).
-use Rattle.std.specs.Prelude.{ℕ, ◌≡◌, ◌≤◌, ◌⊎◌, List, [], ◌++◌, Option, Some, None, IfSome, ⊤, option_map}
+use Rattle.std.specs.Prelude.{ℕ, ◌≡◌, ◌≢◌, ◌≤◌, ◌⊎◌, ◌+◌, List, [], ◌++◌, Option, Some, None, IfSome, ⊤, option_map}
 use Rattle.std.specs.Io.KnownBytes.{Appends, Keeps}
 use Rattle.mrp_rows.specs.Streams.{WritesFront}
-use Rattle.mrp_rows.specs.Told.{HasRisenBy, calls_of, failures_of, greatest_count, interrupted_of}
+use Rattle.mrp_rows.specs.Told.{HasRisenBy, calls_of, failures_of, greatest_count, inner_of, interrupted_of}
 use Rattle.mrp_rows.specs.declared.streams.TheConstants.{READ_CALLS, WRITE_TRIES}
 use Rattle.mrp_rows.specs.declared.told.Told.{Told}
 use Rattle.mrp_book.specs.Standing.{History}
 use Rattle.mrp_intake.specs.Lines.{told_lines}
 use Rattle.mrp_journal.specs.Held.{Becomes, Held}
 use Rattle.mrp_journal.specs.Journal.{KeepsSafely, with_more}
+use Rattle.mrp_folder.specs.Sealed.{failures_of_sealed, journal_of}
+use Rattle.mrp_folder.specs.declared.sealing.SealedJournal.{SealedJournal}
 use Rattle.mrp_calls.specs.Answers.{Answers}
 use Rattle.mrp_calls.specs.Desk.{Desk}
 use Rattle.mrp_commands.specs.declared.ending.Ending.{Ending}
 use Rattle.mrp_commands.specs.declared.ending.Ending.TheVariants as ending
 use Rattle.mrp_words.specs.Folder.{Known}
-use Rattle.mrp_open.specs.Runs.{HandsAllMissing, HandsOverAll}
+use Rattle.mrp_open.specs.Runs.{Handed, HandsAllMissing, HandsOverAll}
 
--- a desk with its journal and its output, as far as these are known
+-- an input: what is left of it, as far as that is known, and how many of its calls were made, were interrupted and failed
+pub record Source : Type 0 where
+  pub left : Option (List ℕ)
+  pub calls : ℕ
+  pub interrupted : ℕ
+  pub failures : ℕ
+
+-- a reader as an input
+abbrev pub source_of : {R : Type 0} → (R → Option (List ℕ)) → Told R → Source
+source_of remaining input = record { left = remaining (inner_of input); calls = calls_of input; interrupted = interrupted_of input; failures = failures_of input }
+
+-- a desk with its journal and its output, as far as these are known; and how many calls of the journal failed, and of the
+-- output failed and were interrupted
 pub record Stand : Type 0 where
   pub desk : Desk
   pub journal : Option Held
+  pub journal_failures : ℕ
   pub output : Option (List ℕ)
+  pub output_failures : ℕ
+  pub output_interrupted : ℕ
 
--- lines were answered: their records are durable behind the journal, and then their answers were written
+-- a desk with the file of its journal and with a writer
+abbrev pub stand_of : {S W : Type 0} → (S → Option Held) → (S → ℕ) → (W → Option (List ℕ)) → Desk → S → Told W → Stand
+stand_of held failures contents desk journal output = record {
+  desk = desk;
+  journal = held journal;
+  journal_failures = failures journal;
+  output = contents (inner_of output);
+  output_failures = failures_of output;
+  output_interrupted = interrupted_of output;
+}
+
+-- the same where the journal is sealed: the calls that put its seal there count too
+abbrev pub sealed_stand : {S D W : Type 0} → (S → Option Held) → (S → ℕ) → (W → Option (List ℕ)) → Desk → SealedJournal S D → Told W → Stand
+sealed_stand {S} {D} held failures contents desk journal output =
+    stand_of (λ (j : SealedJournal S D). held (journal_of j)) (λ (j : SealedJournal S D). failures_of_sealed j + failures (journal_of j)) contents desk journal output
+
+-- lines were answered: their records are durable behind the journal, and then their answers were written; no call failed
 pub record Settles (lines : List (List ℕ)) (old new : Stand) : Type 0 where
   pub answers : List ℕ
   pub records : List ℕ
   pub answered : Answers lines old.desk answers records new.desk
   pub kept : new.journal ≡ option_map (with_more records) old.journal
   pub told : Appends old.output new.output answers
+  pub sound : new.journal_failures ≡ old.journal_failures
+  pub clear : new.output_failures ≡ old.output_failures
+
+-- a call of the journal has failed, or one of the output, or that was interrupted too often
+abbrev pub FailsToSettle : Stand → Stand → Type 0
+FailsToSettle old new =
+    HasRisenBy 1 old.journal_failures new.journal_failures ⊎ (HasRisenBy 1 old.output_failures new.output_failures ⊎ HasRisenBy WRITE_TRIES old.output_interrupted new.output_interrupted)
 
 -- lines were answered, and then the journal or the output failed: of the records a front may be there, and of the answers
 -- a front was written, but none before all records were durable
@@ -39,30 +79,26 @@ pub record Breaks (lines : List (List ℕ)) (old new : Stand) : Type 0 where
   pub safe : Becomes (KeepsSafely records) old.journal new.journal
   pub front : WritesFront old.output new.output answers
   pub durable : Keeps old.output new.output ⊎ (new.journal ≡ option_map (with_more records) old.journal)
+  pub fails : FailsToSettle old new
 
--- lines were not settled: none of them was answered, and nothing has changed; or the journal or the output failed
-abbrev pub Stops : List (List ℕ) → Stand → Stand → Type 0
-Stops lines old new = (new ≡ old) ⊎ Breaks lines old new
+-- lines were not settled: there was no memory, and nothing has changed or failed; or the journal or the output failed
+abbrev pub Fails : List (List ℕ) → Stand → Stand → Ending → Type 0
+Fails lines old new end = ((end ≡ ending.NoMemory) × (new ≡ old)) ⊎ ((end ≡ ending.Write) × Breaks lines old new)
 
--- the runs of the entries that a desk has made since were told
-pub record HandsMore (old new : History) (told_old told_new : Option (List ℕ)) : Type 0 where
+-- no more lines were settled, and nothing has changed or failed but the input; or the journal or the output failed
+abbrev pub Stops : List (List ℕ) → Stand → Stand → Ending → Type 0
+Stops lines old new end = ((end ≢ ending.Write) × (new ≡ old)) ⊎ ((end ≡ ending.Write) × Breaks lines old new)
+
+-- the runs of the entries that a desk has made since were handed over
+pub record HandsMore (old new : History) (handed_old handed_new : Handed) : Type 0 where
   pub more : History
   pub is : new ≡ old ++ more
-  pub handed : HandsOverAll more told_old told_new
+  pub handed : HandsOverAll more handed_old handed_new
 
--- lines were settled, and then their runs were told
-pub record SettlesRuns (lines : List (List ℕ)) (old new : Stand) (told_old told_new : Option (List ℕ)) : Type 0 where
+-- lines were settled, and then their runs were handed over
+pub record SettlesRuns (lines : List (List ℕ)) (old new : Stand) (handed_old handed_new : Handed) : Type 0 where
   pub settled : Settles lines old new
-  pub handed : HandsMore old.desk.entries new.desk.entries told_old told_new
-
--- why a batch is not settled
-abbrev pub IsBatchEnd : Ending → Type 0
-IsBatchEnd end = (end ≡ ending.NoMemory) ⊎ (end ≡ ending.Write)
-
--- lines were not settled
-pub record Fails (lines : List (List ℕ)) (old new : Stand) (end : Ending) : Type 0 where
-  pub stopped : Stops lines old new
-  pub ends : IsBatchEnd end
+  pub handed : HandsMore old.desk.entries new.desk.entries handed_old handed_new
 
 -- the lines that were to come, behind what was read of the first, were these and those that are still to come, as far as
 -- that is known
@@ -71,47 +107,52 @@ BringsLines begun None lines next left = ⊤
 BringsLines begun (Some before) lines next None = ⊥
 BringsLines begun (Some before) lines next (Some after) = told_lines (begun ++ before) ≡ lines ++ told_lines (next ++ after)
 
--- lines of an input were settled, and then their runs were told
-pub record Advances (begun : List ℕ) (given : Option (List ℕ)) (next : List ℕ) (left : Option (List ℕ)) (old new : Stand) (told_old told_new : Option (List ℕ)) : Type 0 where
+-- lines of an input were settled, and then their runs were handed over; no call of the input failed
+pub record Advances (begun : List ℕ) (given : Source) (next : List ℕ) (left : Source) (old new : Stand) (handed_old handed_new : Handed) : Type 0 where
   pub lines : List (List ℕ)
-  pub brings : BringsLines begun given lines next left
-  pub settles : SettlesRuns lines old new told_old told_new
+  pub brings : BringsLines begun given.left lines next left.left
+  pub heard : left.failures ≡ given.failures
+  pub settles : SettlesRuns lines old new handed_old handed_new
 
 -- why an order desk that was open ends
 abbrev pub IsServingEnd : Ending → Type 0
 IsServingEnd end = (end ≡ ending.Done) ⊎ ((end ≡ ending.NoMemory) ⊎ ((end ≡ ending.Read) ⊎ (end ≡ ending.Write)))
 
--- an input has failed, or was interrupted as often as can be counted, or was read from as often as may be without a line
-abbrev pub FailsToRead : {R : Type 0} → Told R → Told R → Type 0
-FailsToRead input read = HasRisenBy 1 (failures_of input) (failures_of read) ⊎ ((greatest_count ≤ interrupted_of read) ⊎ (READ_CALLS ≤ calls_of read))
+-- a call of an input has failed, or it was interrupted as often as can be counted, or read from as often as may be
+-- without a line
+abbrev pub FailsToRead : Source → Source → Type 0
+FailsToRead old new = HasRisenBy 1 old.failures new.failures ⊎ ((greatest_count ≤ new.interrupted) ⊎ HasRisenBy READ_CALLS old.calls new.calls)
 
--- a journal has failed so much more often, or an output has failed, or was interrupted too often
-abbrev pub FailsToSettle : {W : Type 0} → ℕ → ℕ → Told W → Told W → Type 0
-FailsToSettle sound failed output written = HasRisenBy 1 sound failed ⊎ (HasRisenBy 1 (failures_of output) (failures_of written) ⊎ (WRITE_TRIES ≤ interrupted_of written))
-
--- an order desk has stopped in a batch of lines; where it is done, no line is left
-pub record StopsAt (begun : List ℕ) (given : Option (List ℕ)) (old new : Stand) (end : Ending) : Type 0 where
+-- an order desk has stopped in a batch of lines, or as it read them; where it is done, no line is left
+pub record StopsAt (begun : List ℕ) (given left : Source) (old new : Stand) (end : Ending) : Type 0 where
   pub lines : List (List ℕ)
   pub rest : List (List ℕ)
-  pub given_are : IfSome given (λ text. told_lines (begun ++ text) ≡ lines ++ rest)
-  pub stopped : Stops lines old new
+  pub given_are : IfSome given.left (λ text. told_lines (begun ++ text) ≡ lines ++ rest)
+  pub stopped : Stops lines old new end
+  pub fails : end ≡ ending.Read → FailsToRead given left
+  pub clear : end ≢ ending.Read → left.failures ≡ given.failures
   pub all : end ≡ ending.Done → (lines ≡ []) × (rest ≡ []) × (new ≡ old)
   pub ends : IsServingEnd end
 
--- an order desk has answered lines of its input, one after the other, told their runs, and stopped in a batch of more
--- lines; at the end of the input all lines are answered
-pub record Serves (given : Option (List ℕ)) (old new : Stand) (told_old told_new : Option (List ℕ)) (end : Ending) : Type 0 where
+-- an order desk has answered lines of its input, one after the other, handed over their runs, and stopped in a batch of
+-- more lines, or as it read them; at the end of the input all lines are answered; what has failed failed in that batch, and
+-- is what the end tells
+pub record Serves (given left : Source) (old new : Stand) (handed_old handed_new : Handed) (end : Ending) : Type 0 where
   pub lines : List (List ℕ)
   pub more : List (List ℕ)
   pub rest : List (List ℕ)
+  pub waiting : Source
   pub between : Stand
-  pub settles : SettlesRuns lines old between told_old told_new
-  pub stopped : Stops more between new
-  pub given_are : IfSome given (λ text. told_lines text ≡ lines ++ (more ++ rest))
+  pub given_are : IfSome given.left (λ text. told_lines text ≡ lines ++ (more ++ rest))
+  pub heard : waiting.failures ≡ given.failures
+  pub settles : SettlesRuns lines old between handed_old handed_new
+  pub stopped : Stops more between new end
+  pub fails : end ≡ ending.Read → FailsToRead waiting left
+  pub clear : end ≢ ending.Read → left.failures ≡ waiting.failures
   pub all : end ≡ ending.Done → (more ≡ []) × (rest ≡ []) × (new ≡ between)
   pub ends : IsServingEnd end
 
--- runs of the journal without a file in the folder are told, and then lines of the input are answered
-abbrev pub MakesUp : Known → List ℕ → Option (List ℕ) → Stand → Stand → Option (List ℕ) → Option (List ℕ) → Ending → Type 0
-MakesUp known folder given old new told_old told_new end =
-    (handed : Option (List ℕ)) × HandsAllMissing known folder old.desk.entries told_old handed × Serves given old new handed told_new end
+-- runs of the journal without a file in the folder are handed over, and then lines of the input are answered
+abbrev pub MakesUp : Known → List ℕ → Source → Source → Stand → Stand → Handed → Handed → Ending → Type 0
+MakesUp known folder given left old new handed_old handed_new end =
+    (handed : Handed) × HandsAllMissing known folder old.desk.entries handed_old handed × Serves given left old new handed handed_new end

@@ -1,16 +1,15 @@
 //! The batches of an order desk.
 
-ghost use Rattle.std.specs.Prelude.{◌≡◌, ◌⊎◌, ℕ, Bool, true, List, Err, None, Option, Some, IfErr, IfSome, MatchOption, OnErr, OnOk};
+ghost use Rattle.std.specs.Prelude.{◌≡◌, ℕ, Bool, true, List, None, Option, IfErr, IfSome, MatchOption, OnOk};
 ghost use Rattle.std.specs.List.{All};
-ghost use Rattle.mrp_rows.specs.Told.{failures_of, inner_of};
+ghost use Rattle.mrp_rows.specs.Told.{inner_of};
 ghost use Rattle.mrp_intake.specs.Intake.{IsOneRead};
 ghost use Rattle.mrp_intake.specs.Lines.{told_lines};
 ghost use Rattle.mrp_journal.specs.Held.{IsSettled};
-ghost use Rattle.mrp_commands.specs.declared.ending.Ending.TheVariants as ending;
 ghost use Rattle.mrp_runs.specs.File.{IsRun};
 ghost use Rattle.mrp_runs.specs.declared.run.Run.{Run};
-ghost use Rattle.mrp_open.specs.Runs.{HandsOver, HandsOverAll, IsRunOf, with_front};
-ghost use Rattle.mrp_open.specs.Served.{Advances, Fails, FailsToRead, FailsToSettle, Serves, Settles, SettlesRuns, Stops, StopsAt};
+ghost use Rattle.mrp_open.specs.Runs.{Hands, HandsOver, HandsOverAll, IsRunOf, handed_of, with_front};
+ghost use Rattle.mrp_open.specs.Served.{Advances, Fails, Serves, Settles, SettlesRuns, StopsAt, source_of, stand_of};
 
 use mrp_book::{Call, Entry, Reply, Snapshot};
 use mrp_calls::OpenDesk;
@@ -59,7 +58,7 @@ pub trait RunTaker {
 // Hands over a run.
 pub(crate) fn hand_run<T: RunTaker>(desk: u64, snapshot: &Snapshot, taker: &mut T)
     requires { T.takes (record { desk = desk; snapshot = snapshot.now }) }
-    ensures { T.told taker.new ≡ with_front snapshot.now.front (T.told taker.old) }
+    ensures { Hands snapshot.now.front (handed_of T.told T.given taker.old) (handed_of T.told T.given taker.new) }
 {
     match snapshot.copy() {
         Ok(snapshot) => taker.take(Run { desk, snapshot }),
@@ -70,7 +69,7 @@ pub(crate) fn hand_run<T: RunTaker>(desk: u64, snapshot: &Snapshot, taker: &mut 
 // Hands over an entry, if it is a run.
 fn hand_entry<T: RunTaker>(entry: &Entry<Call, Reply>, taker: &mut T)
     requires { IsRunOf T.takes entry.now }
-    ensures { HandsOver entry.now.reply (T.told taker.old) (T.told taker.new) }
+    ensures { HandsOver entry.now.reply (handed_of T.told T.given taker.old) (handed_of T.told T.given taker.new) }
 {
     match &entry.reply {
         Reply::Taken(snapshot) => hand_run(entry.who, snapshot, taker),
@@ -81,7 +80,7 @@ fn hand_entry<T: RunTaker>(entry: &Entry<Call, Reply>, taker: &mut T)
 /// Hands over the runs of entries, in their order.
 pub fn hand_over<T: RunTaker>(entries: &[Entry<Call, Reply>], taker: &mut T)
     requires { All (IsRunOf T.takes) entries.now }
-    ensures { HandsOverAll entries.now (T.told taker.old) (T.told taker.new) }
+    ensures { HandsOverAll entries.now (handed_of T.told T.given taker.old) (handed_of T.told T.given taker.new) }
 {
     for entry in entries {
         hand_entry(entry, taker);
@@ -104,17 +103,8 @@ fn answer_batch<S: Store, W: Write>(
     output: &mut Told<W>,
 ) -> Result<(), Ending>
     requires { IfSome (S.held journal.old) IsSettled }
-    ensures settled { OnOk result (Settles (told_lines batch.now)
-        (record { desk = desk.old; journal = S.held journal.old; output = W.contents (inner_of output.old) })
-        (record { desk = desk.new; journal = S.held journal.new; output = W.contents (inner_of output.new) })) }
-    ensures stopped { OnErr result (Stops (told_lines batch.now)
-        (record { desk = desk.old; journal = S.held journal.old; output = W.contents (inner_of output.old) })
-        (record { desk = desk.new; journal = S.held journal.new; output = W.contents (inner_of output.new) })) }
-    ensures end { IfErr result (λ end. (end ≡ ending.NoMemory) ⊎ (end ≡ ending.Write)) }
-    ensures write { result ≡ Err ending.Write → FailsToSettle (S.failures journal.old) (S.failures journal.new) output.old output.new }
-    ensures memory { result ≡ Err ending.NoMemory → (S.failures journal.new ≡ S.failures journal.old) × (failures_of output.new ≡ failures_of output.old) }
-    ensures sound { OnOk result (S.failures journal.new ≡ S.failures journal.old) }
-    ensures failures { OnOk result (failures_of output.new ≡ failures_of output.old) }
+    ensures settled { OnOk result (Settles (told_lines batch.now) (stand_of S.held S.failures W.contents desk.old journal.old output.old) (stand_of S.held S.failures W.contents desk.new journal.new output.new)) }
+    ensures failed { IfErr result (Fails (told_lines batch.now) (stand_of S.held S.failures W.contents desk.old journal.old output.old) (stand_of S.held S.failures W.contents desk.new journal.new output.new)) }
 {
     match desk.answer(batch, &mut texts.answers, &mut texts.records) {
         Ok(()) => match settle(journal, &texts.records, &texts.answers, output) {
@@ -136,18 +126,11 @@ fn settle_batch<S: Store, W: Write, T: RunTaker>(
 ) -> Option<Ending>
     requires settled { IfSome (S.held journal.old) IsSettled }
     requires taken { (run : Run) → IsRun desk.old.tables run → T.takes run }
-    ensures settles { MatchOption result
-        (SettlesRuns (told_lines batch.now)
-        (record { desk = desk.old; journal = S.held journal.old; output = W.contents (inner_of output.old) })
-        (record { desk = desk.new; journal = S.held journal.new; output = W.contents (inner_of output.new) }) (T.told taker.old) (T.told taker.new))
-        (λ end. Fails (told_lines batch.now)
-        (record { desk = desk.old; journal = S.held journal.old; output = W.contents (inner_of output.old) })
-        (record { desk = desk.new; journal = S.held journal.new; output = W.contents (inner_of output.new) }) end × (T.told taker.new ≡ T.told taker.old)) }
-    ensures write { result ≡ Some ending.Write → FailsToSettle (S.failures journal.old) (S.failures journal.new) output.old output.new }
-    ensures read { result ≡ Some ending.Read → ⊥ }
-    ensures memory { result ≡ Some ending.NoMemory → (S.failures journal.new ≡ S.failures journal.old) × (failures_of output.new ≡ failures_of output.old) }
-    ensures sound { result ≡ None → S.failures journal.new ≡ S.failures journal.old }
-    ensures failures { result ≡ None → failures_of output.new ≡ failures_of output.old }
+    ensures { MatchOption result
+        (SettlesRuns (told_lines batch.now) (stand_of S.held S.failures W.contents desk.old journal.old output.old)
+        (stand_of S.held S.failures W.contents desk.new journal.new output.new) (handed_of T.told T.given taker.old) (handed_of T.told T.given taker.new))
+        (λ end. Fails (told_lines batch.now) (stand_of S.held S.failures W.contents desk.old journal.old output.old)
+        (stand_of S.held S.failures W.contents desk.new journal.new output.new) end × ((handed_of T.told T.given taker.new) ≡ (handed_of T.told T.given taker.old))) }
 {
     let before = desk.entries().len();
     match answer_batch(desk, batch, texts, journal, output) {
@@ -172,19 +155,13 @@ fn serve_batch<S: Store, R: Read, W: Write, T: RunTaker>(
     requires settled { IfSome (S.held journal.old) IsSettled }
     requires taken { (run : Run) → IsRun desk.old.tables run → T.takes run }
     ensures advances { MatchOption result
-        (Advances intake.old.begun (R.remaining (inner_of input.old)) intake.new.begun (R.remaining (inner_of input.new))
-        (record { desk = desk.old; journal = S.held journal.old; output = W.contents (inner_of output.old) })
-        (record { desk = desk.new; journal = S.held journal.new; output = W.contents (inner_of output.new) }) (T.told taker.old) (T.told taker.new))
-        (λ end. StopsAt intake.old.begun (R.remaining (inner_of input.old))
-        (record { desk = desk.old; journal = S.held journal.old; output = W.contents (inner_of output.old) })
-        (record { desk = desk.new; journal = S.held journal.new; output = W.contents (inner_of output.new) }) end × (T.told taker.new ≡ T.told taker.old)) }
-    ensures read { result ≡ Some ending.Read → FailsToRead input.old input.new }
-    ensures write { result ≡ Some ending.Write → FailsToSettle (S.failures journal.old) (S.failures journal.new) output.old output.new }
-    ensures memory { result ≡ Some ending.NoMemory → (S.failures journal.new ≡ S.failures journal.old) × (failures_of output.new ≡ failures_of output.old) }
+        (Advances intake.old.begun (source_of R.remaining input.old) intake.new.begun (source_of R.remaining input.new)
+        (stand_of S.held S.failures W.contents desk.old journal.old output.old)
+        (stand_of S.held S.failures W.contents desk.new journal.new output.new) (handed_of T.told T.given taker.old) (handed_of T.told T.given taker.new))
+        (λ end. StopsAt intake.old.begun (source_of R.remaining input.old) (source_of R.remaining input.new)
+        (stand_of S.held S.failures W.contents desk.old journal.old output.old)
+        (stand_of S.held S.failures W.contents desk.new journal.new output.new) end × ((handed_of T.told T.given taker.new) ≡ (handed_of T.told T.given taker.old))) }
     ensures one { result ≡ None → IsOneRead (R.remaining (inner_of input.old)) (R.remaining (inner_of input.new)) }
-    ensures heard { result ≡ None → failures_of input.new ≡ failures_of input.old }
-    ensures sound { result ≡ None → S.failures journal.new ≡ S.failures journal.old }
-    ensures failures { result ≡ None → failures_of output.new ≡ failures_of output.old }
 {
     match intake.next_batch(input) {
         Ok(true) => settle_batch(desk, intake.batch(), texts, journal, output, taker),
@@ -206,13 +183,9 @@ pub fn serve<S: Store, R: Read, W: Write, T: RunTaker>(
 ) -> Ending
     requires settled { IfSome (S.held journal.old) IsSettled }
     requires taken { (run : Run) → IsRun desk.old.tables run → T.takes run }
-    ensures served { Serves (R.remaining (inner_of input.old))
-        (record { desk = desk.old; journal = S.held journal.old; output = W.contents (inner_of output.old) })
-        (record { desk = desk.new; journal = S.held journal.new; output = W.contents (inner_of output.new) })
-        (T.told taker.old) (T.told taker.new) result }
-    ensures read { result ≡ ending.Read → FailsToRead input.old input.new }
-    ensures write { result ≡ ending.Write → FailsToSettle (S.failures journal.old) (S.failures journal.new) output.old output.new }
-    ensures memory { result ≡ ending.NoMemory → (S.failures journal.new ≡ S.failures journal.old) × (failures_of output.new ≡ failures_of output.old) }
+    ensures { Serves (source_of R.remaining input.old) (source_of R.remaining input.new)
+        (stand_of S.held S.failures W.contents desk.old journal.old output.old)
+        (stand_of S.held S.failures W.contents desk.new journal.new output.new) (handed_of T.told T.given taker.old) (handed_of T.told T.given taker.new) result }
 {
     let mut intake = Intake::new(alloc);
     let mut texts = Texts {

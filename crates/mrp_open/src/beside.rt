@@ -1,47 +1,43 @@
 //! An order desk, from its start to its end, with a thread that makes the files of its runs.
 
-ghost use Rattle.std.specs.Prelude.{◌≡◌, ◌⊎◌, None, false, true, IfErr, IfOk, IfSome, IsTrue, OnErr, OnOk, Some, codes, length, option_map, string_bytes};
+ghost use Rattle.std.specs.Prelude.{◌≡◌, ◌<◌, ◌↔◌, ◌⊎◌, ℕ, true, IfErr, IfOk, IfSome, IsTrue, OnErr, OnOk, codes};
 ghost use Rattle.std.specs.Int.{IsInRange};
 ghost use Rattle.std.specs.List.{All};
 ghost use Rattle.std.specs.Path.{path_join};
-ghost use Rattle.mrp_rows.specs.Told.{inner_of};
-ghost use Rattle.mrp_journal.specs.Held.{IsSettled, settled};
-ghost use Rattle.mrp_journal.specs.Journal.{IsFound, begun as text_begun};
+ghost use Rattle.mrp_journal.specs.Held.{IsSettled};
 ghost use Rattle.mrp_folder.specs.Disk.{part_of, path_of as folder_path};
-ghost use Rattle.mrp_folder.specs.Sealed.{folder_of, has_seal, journal_of, name_of, text_of};
+ghost use Rattle.mrp_folder.specs.Sealed.{journal_of};
 ghost use Rattle.mrp_engine.specs.declared.day.run.TheConstants.{MOST_WORKERS};
-ghost use Rattle.mrp_words.specs.Folder.{IsAt, IsThere, nothing_known};
-ghost use Rattle.mrp_calls.specs.Desk.{Desk};
+ghost use Rattle.mrp_words.specs.Folder.{IsThere};
 ghost use Rattle.mrp_commands.specs.Telling.{words_of};
 ghost use Rattle.mrp_commands.specs.declared.ending.Ending.TheVariants as ending;
 ghost use Rattle.mrp_book.specs.declared.reply.Reply.TheVariants as reply;
 ghost use Rattle.mrp_runs.specs.File.{IsRun, run_name};
 ghost use Rattle.mrp_runs.specs.declared.run.Run.{Run};
 ghost use Rattle.mrp_open.specs.Disk.{opening_of, path_of};
-ghost use Rattle.mrp_open.specs.Ends.{DeskEnds, FailsToBegin, FailsToStart, FailsWithLock, IsServed, IsTold, ServesOn, TellsEnd, cut_of};
+ghost use Rattle.mrp_open.specs.Ends.{DeskEnds, FailsToBegin, FailsToStart, FailsWithLock, IsServed, IsTold, ServesPrepared, TellsEnd};
 ghost use Rattle.mrp_open.specs.Made.{MakesAll};
-ghost use Rattle.mrp_open.specs.Opening.{FailsToWrite, IsUntouched};
-ghost use Rattle.mrp_open.specs.Runs.{HandsAllMissing, HandsMissing, HasFile, IsRunOf};
-ghost use Rattle.mrp_open.specs.Served.{FailsToRead, FailsToSettle, MakesUp};
-ghost use Rattle.mrp_open.specs.Start.{AnswersJournal, AreUnchanged, sum_path};
+ghost use Rattle.mrp_open.specs.Opening.{FailsToAnswer, FailsToServe, FailsToWrite, IsUntouched, with_failures};
+ghost use Rattle.mrp_open.specs.Runs.{HandsAllMissing, HandsMissing, IsRunOf, handed_of};
+ghost use Rattle.mrp_open.specs.Served.{MakesUp, sealed_stand, source_of, stand_of};
 
 use crate::batches::{RunTaker, hand_run, serve};
+use crate::beginning::{BegunDesk, begin_desk};
 use crate::disk::{DeskFolder, LockFault, has_file};
 use crate::handing::{Given, RunKind, RunReceiver, RunSender, RunSource, make_all};
 use crate::notes::Notes;
-use crate::opening::{begin_journal, cut_number, tell_cut};
-use crate::place::JournalPlace;
-use crate::start::{Prepared, SUM_NAME, answer_journal, is_sealed, prepare};
+use crate::opening::tell_cut;
+use crate::start::{Prepared, prepare};
 use crate::whole_lines::WholeLines;
 use crossbeam_channel::unbounded;
 use mrp_book::{Call, Entry, Reply, Snapshot};
 use mrp_calls::OpenDesk;
 use mrp_commands::Ending;
 use mrp_engine::MOST_WORKERS;
-use mrp_folder::{DiskFolder, Folder, SealedJournal};
-use mrp_journal::{JournalFile, Store};
+use mrp_folder::{DiskFolder, Folder};
+use mrp_journal::Store;
 use mrp_qty::NoMemory;
-use mrp_rows::Told;
+use mrp_rows::{Told, WRITE_TRIES};
 use mrp_runs::{RunMaker, run_name};
 use mrp_words::FileStore;
 use std::alloc::Global;
@@ -52,9 +48,6 @@ use std::rt::Files;
 use std::sync::Wait;
 use std::thread;
 use std::thread::Threads;
-
-// The name that the file of the sum is begun with.
-const SUM_PART: &str = "desk.part";
 
 // The name that a run's file is begun with.
 const RUN_PART: &str = "run.part";
@@ -82,8 +75,7 @@ fn hand_missing_run<F: FileStore, T: RunTaker>(
     taker: &mut T,
 )
     requires { T.takes (record { desk = desk; snapshot = snapshot.now }) }
-    ensures told { HandsMissing (F.known files.now) folder.now (reply.Taken snapshot.now) (T.told taker.old) (T.told taker.new) }
-    ensures given { HasFile (F.known files.now) folder.now (reply.Taken snapshot.now) → T.given taker.new ≡ T.given taker.old }
+    ensures { HandsMissing (F.known files.now) folder.now (reply.Taken snapshot.now) (handed_of T.told T.given taker.old) (handed_of T.told T.given taker.new) }
 {
     match has_run(files, alloc, folder, snapshot.front()) {
         Ok(true) => {}
@@ -101,8 +93,7 @@ fn hand_missing<F: FileStore, T: RunTaker>(
     taker: &mut T,
 )
     requires { IsRunOf T.takes entry.now }
-    ensures told { HandsMissing (F.known files.now) folder.now entry.now.reply (T.told taker.old) (T.told taker.new) }
-    ensures given { HasFile (F.known files.now) folder.now entry.now.reply → T.given taker.new ≡ T.given taker.old }
+    ensures { HandsMissing (F.known files.now) folder.now entry.now.reply (handed_of T.told T.given taker.old) (handed_of T.told T.given taker.new) }
 {
     match &entry.reply {
         Reply::Taken(snapshot) => {
@@ -121,84 +112,11 @@ pub fn hand_over_missing<F: FileStore, T: RunTaker>(
     taker: &mut T,
 )
     requires { All (IsRunOf T.takes) entries.now }
-    ensures told { HandsAllMissing (F.known files.now) folder.now entries.now (T.told taker.old) (T.told taker.new) }
-    ensures given { All (λ e. HasFile (F.known files.now) folder.now e.reply) entries.now → T.given taker.new ≡ T.given taker.old }
+    ensures { HandsAllMissing (F.known files.now) folder.now entries.now (handed_of T.told T.given taker.old) (handed_of T.told T.given taker.new) }
 {
     for entry in entries {
         hand_missing(files, alloc, folder, entry, taker);
     }
-}
-
-// An order desk whose journal was begun.
-struct Begun<'a, R, S> {
-    desk: OpenDesk<'a>,
-    journal: SealedJournal<'a, S, DiskFolder<'a, R>>,
-    maker: RunMaker<'a>,
-    // The record that half a line would have been that was cut off.
-    cut: Option<u64>,
-    folder: &'a str,
-}
-
-// The maker of a shop's runs.
-fn maker_of<'a>(
-    alloc: Global,
-    prepared: &'a Prepared,
-    workers: usize,
-) -> Result<RunMaker<'a>, Ending>
-    requires { IsInRange 1 MOST_WORKERS workers }
-    ensures maker { IfOk result (λ maker. maker ≡ prepared.now.rows.value.tables) }
-    ensures memory { IfErr result (λ end. end ≡ ending.NoMemory) }
-{
-    match RunMaker::of(alloc, &prepared.rows, workers) {
-        Ok(maker) => Ok(maker),
-        Err(NoMemory) => Err(Ending::NoMemory),
-    }
-}
-
-// Begins the desk of a folder that was prepared. The text of its sum stands there before the first record.
-fn begin<'a, F: FileStore, R: Files, P: JournalPlace>(
-    files: &F,
-    rt: &'a R,
-    alloc: Global,
-    folder: &'a str,
-    place: &mut P,
-    prepared: &'a Prepared,
-    workers: usize,
-) -> Result<Begun<'a, R, P::Journal>, Ending>
-    requires workers { IsInRange 1 MOST_WORKERS workers }
-    requires left { IfSome (P.left place.old) (IsFound prepared.now.found.script.items) }
-    ensures desk { IfOk result (λ begun. AnswersJournal prepared.now.rows.value.tables prepared.now.found.room begun.desk) }
-    ensures maker { IfOk result (λ begun. begun.maker ≡ prepared.now.rows.value.tables) }
-    ensures takes { OnOk result (IsTrue prepared.now.found.takes_records) }
-    ensures cut { IfOk result (λ begun. begun.cut ≡ cut_of prepared.now.found (length begun.desk.entries)) }
-    ensures at { IfOk result (λ begun. begun.folder.now ≡ folder.now) }
-    ensures sum { IfOk result (λ begun. text_of begun.journal ≡ string_bytes prepared.now.found.sum) }
-    ensures name { IfOk result (λ begun. name_of begun.journal ≡ codes "desk.tables") }
-    ensures folder { IfOk result (λ begun. folder_path (folder_of begun.journal) ≡ folder.now) }
-    ensures part { IfOk result (λ begun. part_of (folder_of begun.journal) ≡ codes "desk.part") }
-    ensures begun { IfOk result (λ begun. P.Journal.held (journal_of begun.journal) ≡ option_map (λ _. settled (text_begun prepared.now.found.script.items prepared.now.found.header.now)) (P.left place.old)) }
-    ensures lasts { OnOk result ((P.opening place.new).is_lasting ≡ true) }
-    ensures held { (P.opening place.new).is_held ≡ (P.opening place.old).is_held }
-    ensures sealed { IfOk result (λ begun. has_seal begun.journal ≡ true → IsAt (F.known files.now) (sum_path folder.now) (Some (string_bytes prepared.now.found.sum))) }
-    ensures unsealed { IfOk result (λ begun. has_seal begun.journal ≡ false → (length begun.desk.entries ≡ 0) ⊎ IsAt (F.known files.now) (sum_path folder.now) None) }
-    ensures unchanged { IfOk result (λ begun. AreUnchanged (F.known files.now) folder.now (length begun.desk.entries) (string_bytes prepared.now.found.sum)) }
-    ensures untouched { IfErr result (IsUntouched (P.opening place.old) (P.opening place.new)) }
-    ensures unbegun { IfErr result (FailsToBegin (F.known files.now) folder.now prepared.now.found prepared.now.rows.value.tables (FailsToWrite P.Journal.failures (P.opening place.old) (P.opening place.new))) }
-{
-    let desk = answer_journal(alloc, prepared)?;
-    let records = desk.entries().len();
-    let sealed = is_sealed(files, alloc, folder, records, &prepared.found.sum)?;
-    let maker = maker_of(alloc, prepared, workers)?;
-    let journal = begin_journal(place, &prepared.found)?;
-    let sums = DiskFolder::new(rt, alloc, folder, SUM_PART);
-    let text = prepared.found.sum.as_bytes();
-    Ok(Begun {
-        desk,
-        journal: SealedJournal::new(journal, sums, text, SUM_NAME, sealed),
-        maker,
-        cut: cut_number(&prepared.found, records),
-        folder,
-    })
 }
 
 // Hands over the runs of the journal whose files are not there, and answers calls until the input ends or something
@@ -217,13 +135,10 @@ fn serve_told<F: FileStore, S: Store, I: Read, W: Write, E: Write, T: RunTaker>(
 ) -> Ending
     requires settled { IfSome (S.held journal.old) IsSettled }
     requires taken { (run : Run) → IsRun desk.old.tables run → T.takes run }
-    ensures served { MakesUp (F.known files.now) folder.now (I.remaining (inner_of input.old))
-        (record { desk = desk.old; journal = S.held journal.old; output = W.contents (inner_of output.old) })
-        (record { desk = desk.new; journal = S.held journal.new; output = W.contents (inner_of output.new) })
-        (T.told taker.old) (T.told taker.new) result }
+    ensures served { MakesUp (F.known files.now) folder.now (source_of I.remaining input.old) (source_of I.remaining input.new)
+        (stand_of S.held S.failures W.contents desk.old journal.old output.old)
+        (stand_of S.held S.failures W.contents desk.new journal.new output.new) (handed_of T.told T.given taker.old) (handed_of T.told T.given taker.new) result }
     ensures told { IsTold E.contents errors.old errors.new (words_of result) }
-    ensures read { result ≡ ending.Read → FailsToRead input.old input.new }
-    ensures write { result ≡ ending.Write → FailsToSettle (S.failures journal.old) (S.failures journal.new) output.old output.new }
     ensures closed { T.closed taker.new ≡ true }
 {
     hand_over_missing(files, alloc, folder, desk.entries(), taker);
@@ -267,13 +182,10 @@ where
     requires given { (run : Run) → G.gives run → IsRun maker.old run }
     requires settled { IfSome (S.held journal.old) IsSettled }
     requires taken { (run : Run) → IsRun desk.old.tables run → T.takes run }
-    ensures served { MakesUp (F.known files.now) folder.now (I.remaining (inner_of input.old))
-        (record { desk = desk.old; journal = S.held journal.old; output = W.contents (inner_of output.old) })
-        (record { desk = desk.new; journal = S.held journal.new; output = W.contents (inner_of output.new) })
-        (T.told taker.old) (T.told taker.new) result }
+    ensures served { MakesUp (F.known files.now) folder.now (source_of I.remaining input.old) (source_of I.remaining input.new)
+        (stand_of S.held S.failures W.contents desk.old journal.old output.old)
+        (stand_of S.held S.failures W.contents desk.new journal.new output.new) (handed_of T.told T.given taker.old) (handed_of T.told T.given taker.new) result }
     ensures told { IsTold E.contents errors.old errors.new (words_of result) }
-    ensures read { result ≡ ending.Read → FailsToRead input.old input.new }
-    ensures write { result ≡ ending.Write → FailsToSettle (S.failures journal.old) (S.failures journal.new) output.old output.new }
     ensures closed { T.closed taker.new ≡ true }
     ensures made { MakesAll D.Part N.contents maker.old (G.left from.old) (D.failures into.old) (D.failures into.new) (D.named into.old) (D.named into.new) notes.old notes.new }
 {
@@ -284,13 +196,11 @@ where
     let mut here = || -> Ending
         requires settled { IfSome (S.held journal.now) IsSettled }
         requires taken { (run : Run) → IsRun desk.now.tables run → T.takes run }
-        ensures served { MakesUp (F.known files.entry.now) folder.entry.now (I.remaining (inner_of input.entry.now))
-            (record { desk = desk.entry.now; journal = S.held journal.entry.now; output = W.contents (inner_of output.entry.now) })
-            (record { desk = desk.exit.now; journal = S.held journal.exit.now; output = W.contents (inner_of output.exit.now) })
-            (T.told taker.entry.now) (T.told taker.exit.now) result }
+        ensures served { MakesUp (F.known files.entry.now) folder.entry.now (source_of I.remaining input.entry.now) (source_of I.remaining input.exit.now)
+            (stand_of S.held S.failures W.contents desk.entry.now journal.entry.now output.entry.now)
+            (stand_of S.held S.failures W.contents desk.exit.now journal.exit.now output.exit.now)
+            (handed_of T.told T.given taker.entry.now) (handed_of T.told T.given taker.exit.now) result }
         ensures told { IsTold E.contents errors.entry.now errors.exit.now (words_of result) }
-        ensures read { result ≡ ending.Read → FailsToRead input.entry.now input.exit.now }
-        ensures write { result ≡ ending.Write → FailsToSettle (S.failures journal.entry.now) (S.failures journal.exit.now) output.entry.now output.exit.now }
         ensures closed { T.closed taker.exit.now ≡ true }
     {
         serve_told(
@@ -309,10 +219,94 @@ fn run_folder<'a, R>(rt: &'a R, alloc: Global, folder: &'a str) -> DiskFolder<'a
     DiskFolder::new(rt, alloc, folder, RUN_PART)
 }
 
-// Tells what was cut off, answers calls, and makes the files of runs beside that.
+/// Tells what was cut off from the journal of a desk that was begun, hands over its runs whose files are not there,
+/// answers calls, and makes the files of runs beside that.
+pub fn serve_begun<
+    G: RunSource + Send,
+    F: FileStore,
+    S: Store,
+    R: Alloc<A = Global> + Files + Threads + Wait + Sync,
+    D: Folder + Send,
+    N: Write + Send,
+    I: Read,
+    W: Write,
+    E: Write,
+    T: RunTaker,
+>(
+    rt: &R,
+    alloc: Global,
+    files: &F,
+    folder: &str,
+    begun: &mut BegunDesk<'_, R, S>,
+    from: &mut G,
+    into: &mut D,
+    notes: &mut Told<N>,
+    input: &mut Told<I>,
+    output: &mut Told<W>,
+    errors: &mut Told<E>,
+    taker: &mut T,
+) -> Ending
+where
+    D::Part: Send,
+    requires given { (run : Run) → G.gives run → IsRun begun.old.maker run }
+    requires settled { IfSome (S.held (journal_of begun.old.journal)) IsSettled }
+    requires taken { (run : Run) → IsRun begun.old.desk.tables run → T.takes run }
+    ensures served { MakesUp (F.known files.now) folder.now (source_of I.remaining input.old) (source_of I.remaining input.new)
+        (sealed_stand S.held S.failures W.contents begun.old.desk begun.old.journal output.old)
+        (sealed_stand S.held S.failures W.contents begun.new.desk begun.new.journal output.new) (handed_of T.told T.given taker.old) (handed_of T.told T.given taker.new) result }
+    ensures told { TellsEnd E.contents errors.old errors.new begun.old.cut result }
+    ensures closed { T.closed taker.new ≡ true }
+    ensures made { MakesAll D.Part N.contents begun.old.maker (G.left from.old) (D.failures into.old) (D.failures into.new) (D.named into.old) (D.named into.new) notes.old notes.new }
+{
+    tell_cut(begun.cut, errors);
+    serve_and_make(
+        rt,
+        alloc,
+        files,
+        folder,
+        &mut begun.maker,
+        from,
+        into,
+        notes,
+        &mut begun.desk,
+        &mut begun.journal,
+        input,
+        output,
+        errors,
+        taker,
+    )
+}
+
+// Whether a writer has failed since so many of its calls had, or was interrupted too often.
+fn has_failed<W>(output: &Told<W>, failures: u64) -> bool
+    ensures { IsTrue result ↔ FailsToAnswer failures output.now }
+{
+    output.failures() > failures
+        || output.failures() == u64::MAX
+        || output.interrupted() >= u64::from(WRITE_TRIES)
+}
+
+// Counts in a folder that a call of its journal has failed, where a desk has ended by that.
+fn count_end<S: Store, R, W>(
+    place: &mut DeskFolder<'_, R>,
+    _journal: &S,
+    output: &Told<W>,
+    failures: u64,
+    end: &Ending,
+)
+    requires { end.now ≡ ending.Write → (0 < S.failures _journal.now) ⊎ FailsToAnswer failures output.now }
+    ensures same { (failed : ℕ) × (opening_of place.new ≡ with_failures failed (opening_of place.old)) }
+    ensures fails { end.now ≡ ending.Write → FailsToWrite (opening_of place.old) (opening_of place.new) ⊎ FailsToAnswer failures output.now }
+{
+    if matches!(end, Ending::Write) && !has_failed(output, failures) {
+        place.fail();
+    }
+}
+
+// Serves a folder of the operating system that was prepared. The files of runs are put into this one.
 //
-// Errors: `NoMemory` if there is no memory for handing runs over; nothing was told then.
-fn serve_beside<
+// Errors: how the desk ends, where it answers nothing; it is not told then.
+fn open_prepared<
     K: RunKind + Send,
     F: FileStore,
     R: Alloc<A = Global> + Eprint + Files<File = File> + Threads + Wait + Sync,
@@ -323,7 +317,9 @@ fn serve_beside<
     files: &F,
     rt: &R,
     alloc: Global,
-    begun: Begun<'_, R, JournalFile<File>>,
+    place: &mut DeskFolder<'_, R>,
+    prepared: &Prepared,
+    workers: usize,
     mut into: DiskFolder<'_, R>,
     input: &mut Told<I>,
     output: &mut Told<W>,
@@ -331,46 +327,45 @@ fn serve_beside<
 ) -> Result<Ending, Ending>
 where
     R::Dir: Send,
-    requires given { (run : Run) → K.holds run → IsRun begun.maker run }
-    requires taken { (run : Run) → IsRun begun.desk.tables run → K.holds run }
-    requires at { folder_path into ≡ begun.folder.now }
+    requires workers { IsInRange 1 MOST_WORKERS workers }
+    requires given { (run : Run) → K.holds run → IsRun prepared.now.rows.value.tables run }
+    requires taken { (run : Run) → IsRun prepared.now.rows.value.tables run → K.holds run }
+    requires at { folder_path into ≡ path_of place.old }
     requires part { part_of into ≡ codes "run.part" }
-    ensures served { IfOk result (λ end. (new : Desk) × ServesOn (F.known files.now) begun.entry.folder.now I.remaining W.contents input.old output.old output.new begun.entry.desk new end) }
-    ensures told { IfOk result (TellsEnd E.contents errors.old errors.new begun.entry.cut) }
-    ensures read { IfOk result (λ end. end ≡ ending.Read → FailsToRead input.old input.new) }
-    ensures memory { IfErr result (λ end. end ≡ ending.NoMemory) }
+    ensures served { IfOk result (ServesPrepared (F.known files.now) (path_of place.old) prepared.now.found prepared.now.rows.value.tables I.remaining W.contents E.contents
+        input.old input.new output.old output.new errors.old errors.new) }
+    ensures fails { IfOk result (FailsToServe (opening_of place.old) (opening_of place.new) output.old output.new) }
+    ensures lasts { OnOk result ((opening_of place.new).is_lasting ≡ true) }
+    ensures held { (opening_of place.new).is_held ≡ (opening_of place.old).is_held }
+    ensures unbegun { IfErr result (FailsToBegin (opening_of place.old) (opening_of place.new) (F.known files.now) (path_of place.old) prepared.now.found prepared.now.rows.value.tables) }
+    ensures untouched { IfErr result (IsUntouched (opening_of place.old) (opening_of place.new)) }
     ensures same { OnErr result ((input.new ≡ input.old) × (output.new ≡ output.old) × (errors.new ≡ errors.old)) }
 {
-    let Begun {
-        mut desk,
-        mut journal,
-        mut maker,
-        cut,
-        folder,
-    } = begun;
     let Ok((to, from)) = unbounded::<Given<K>, Global>(alloc) else {
         return Err(Ending::NoMemory);
     };
+    let folder = place.path();
+    let mut begun = begin_desk(files, rt, alloc, folder, place, prepared, workers)?;
     let mut taker = RunSender::new(rt, to);
     let mut source = RunReceiver::new(rt, from);
     let mut notes = Told::new(WholeLines::new(Notes { rt }));
-    tell_cut(cut, errors);
-    Ok(serve_and_make(
+    let failures = output.failures();
+    let end = serve_begun(
         rt,
         alloc,
         files,
         folder,
-        &mut maker,
+        &mut begun,
         &mut source,
         &mut into,
         &mut notes,
-        &mut desk,
-        &mut journal,
         input,
         output,
         errors,
         &mut taker,
-    ))
+    );
+    count_end(place, &begun.journal, output, failures, &end);
+    Ok(end)
 }
 
 // An order desk on a folder that was locked.
@@ -386,7 +381,6 @@ fn open_locked<
     files: &F,
     rt: &R,
     alloc: Global,
-    folder: &str,
     place: &mut DeskFolder<'_, R>,
     workers: usize,
     input: &mut Told<I>,
@@ -397,15 +391,17 @@ where
     R::Dir: Send,
     requires workers { IsInRange 1 MOST_WORKERS workers }
     requires held { (opening_of place.old).is_held ≡ true }
-    ensures served { IfOk result (IsServed (opening_of place.new) (F.known files.now) folder.now I.remaining W.contents E.contents input.old input.new output.old output.new errors.old errors.new) }
-    ensures unbegun { IfErr result (FailsWithLock (opening_of place.old) (opening_of place.new) (F.known files.now) folder.now) }
+    ensures served { IfOk result (IsServed (opening_of place.old) (opening_of place.new) (F.known files.now) (path_of place.old) I.remaining W.contents E.contents input.old input.new output.old output.new errors.old errors.new) }
+    ensures unbegun { IfErr result (FailsWithLock (opening_of place.old) (opening_of place.new) (F.known files.now) (path_of place.old)) }
     ensures untouched { IfErr result (IsUntouched (opening_of place.old) (opening_of place.new)) }
     ensures same { OnErr result ((input.new ≡ input.old) × (output.new ≡ output.old) × (errors.new ≡ errors.old)) }
 {
+    let folder = place.path();
     let prepared = prepare(rt, alloc, files, folder)?;
-    let begun = begin(files, rt, alloc, folder, place, &prepared, workers)?;
     let into = run_folder(rt, alloc, folder);
-    serve_beside::<Brand, F, R, I, W, E>(files, rt, alloc, begun, into, input, output, errors)
+    open_prepared::<Brand, F, R, I, W, E>(
+        files, rt, alloc, place, &prepared, workers, into, input, output, errors,
+    )
 }
 
 // An order desk on a folder, which is locked first.
@@ -421,7 +417,6 @@ fn open_named<
     files: &F,
     rt: &R,
     alloc: Global,
-    folder: &str,
     place: &mut DeskFolder<'_, R>,
     workers: usize,
     input: &mut Told<I>,
@@ -431,14 +426,12 @@ fn open_named<
 where
     R::Dir: Send,
     requires { IsInRange 1 MOST_WORKERS workers }
-    ensures served { IfOk result (IsServed (opening_of place.new) (F.known files.now) folder.now I.remaining W.contents E.contents input.old input.new output.old output.new errors.old errors.new) }
-    ensures unbegun { IfErr result (FailsToStart (opening_of place.old) (opening_of place.new) (F.known files.now) folder.now) }
+    ensures served { IfOk result (IsServed (opening_of place.old) (opening_of place.new) (F.known files.now) (path_of place.old) I.remaining W.contents E.contents input.old input.new output.old output.new errors.old errors.new) }
+    ensures unbegun { IfErr result (FailsToStart (opening_of place.old) (opening_of place.new) (F.known files.now) (path_of place.old)) }
     ensures same { OnErr result ((input.new ≡ input.old) × (output.new ≡ output.old) × (errors.new ≡ errors.old)) }
 {
     match place.lock() {
-        Ok(()) => open_locked(
-            files, rt, alloc, folder, place, workers, input, output, errors,
-        ),
+        Ok(()) => open_locked(files, rt, alloc, place, workers, input, output, errors),
         Err(LockFault::InUse) => Err(Ending::InUse),
         Err(LockFault::Read) => Err(Ending::Read),
     }
@@ -464,16 +457,13 @@ fn open_folder<
 where
     R::Dir: Send,
     requires { IsInRange 1 MOST_WORKERS workers }
-    ensures served { IfOk result (IsServed (opening_of place.new) (F.known files.now) (path_of place.old) I.remaining W.contents E.contents input.old input.new output.old output.new errors.old errors.new) }
+    ensures served { IfOk result (IsServed (opening_of place.old) (opening_of place.new) (F.known files.now) (path_of place.old) I.remaining W.contents E.contents input.old input.new output.old output.new errors.old errors.new) }
     ensures unbegun { IfErr result (FailsToStart (opening_of place.old) (opening_of place.new) (F.known files.now) (path_of place.old)) }
     ensures same { OnErr result ((input.new ≡ input.old) × (output.new ≡ output.old) × (errors.new ≡ errors.old)) }
 {
-    let folder = place.path();
     match place.hold_streams() {
         Ok(held) => {
-            let end = open_named(
-                files, rt, alloc, folder, place, workers, input, output, errors,
-            );
+            let end = open_named(files, rt, alloc, place, workers, input, output, errors);
             drop(held);
             end
         }
@@ -482,13 +472,16 @@ where
 }
 
 /// Opens an order desk on a folder, answers the lines of an input until it ends, and returns how that ended, which
-/// was told on the error stream. It has 1 to 64 workers to plan runs, as the caller guarantees.
+/// was told on the error stream. It has 1 to 64 workers to plan runs, as the caller guarantees. What the folder has is
+/// read from these files.
 pub fn open_desk<
+    F: FileStore,
     R: Alloc<A = Global> + Eprint + Files<File = File> + Threads + Wait + Sync,
     I: Read,
     W: Write,
     E: Write,
 >(
+    files: &F,
     rt: &R,
     alloc: Global,
     place: &mut DeskFolder<'_, R>,
@@ -500,9 +493,9 @@ pub fn open_desk<
 where
     R::Dir: Send,
     requires { IsInRange 1 MOST_WORKERS workers }
-    ensures { DeskEnds (opening_of place.old) (opening_of place.new) nothing_known (path_of place.old) I.remaining W.contents E.contents input.old input.new output.old output.new errors.old errors.new result }
+    ensures { DeskEnds (opening_of place.old) (opening_of place.new) (F.known files.now) (path_of place.old) I.remaining W.contents E.contents input.old input.new output.old output.new errors.old errors.new result }
 {
-    match open_folder(rt, rt, alloc, place, workers, input, output, errors) {
+    match open_folder(files, rt, alloc, place, workers, input, output, errors) {
         Ok(end) => end,
         Err(end) => {
             let _ = end.tell(errors);

@@ -142,7 +142,7 @@ fn sync_folder<F: OpenFile>(lock: &Lock<F>) -> io::Result<()>
 
 /// A folder of the operating system that an order desk is opened on. What its calls answered is told: whether it is
 /// locked, its journal was opened and its names are durable, how often another desk had the lock, and how many calls
-/// failed.
+/// failed, of the folder or of its journal.
 #[derive(Drop)]
 pub struct DeskFolder<'a, R> {
     files: &'a R,
@@ -158,7 +158,7 @@ pub struct DeskFolder<'a, R> {
 impl<'a, R> DeskFolder<'a, R> {
     ghost use Rattle.std.specs.Prelude.{◌≡◌};
     ghost use Rattle.mrp_open.specs.Disk.{opening_of, path_of};
-    ghost use Rattle.mrp_open.specs.Opening.{HasFailed, unopened};
+    ghost use Rattle.mrp_open.specs.Opening.{HasFailed, unopened, with_failure};
 
     /// A folder of which no call was made yet.
     pub fn new(files: &'a R, alloc: Global, path: &'a str) -> DeskFolder<'a, R>
@@ -185,9 +185,11 @@ impl<'a, R> DeskFolder<'a, R> {
     }
 
     // Counts a call that failed.
-    fn fail(&mut self)
+    pub(crate) fn fail(&mut self)
+        ensures counted { opening_of self.new ≡ with_failure (opening_of self.old) }
         ensures failed { HasFailed (opening_of self.old) (opening_of self.new) }
         ensures unopened { (opening_of self.new).is_opened ≡ (opening_of self.old).is_opened }
+        ensures path { path_of self.new ≡ path_of self.old }
     {
         self.failures = self.failures.saturating_add(1);
     }
@@ -195,7 +197,7 @@ impl<'a, R> DeskFolder<'a, R> {
 
 impl<'a, R: Files<File = File>> DeskFolder<'a, R> {
     ghost use Rattle.std.specs.Prelude.{◌≡◌, OnErr, OnOk};
-    ghost use Rattle.mrp_open.specs.Disk.{TellsLock, opening_of};
+    ghost use Rattle.mrp_open.specs.Disk.{TellsLock, opening_of, path_of};
     ghost use Rattle.mrp_open.specs.Opening.{HasFailed};
 
     /// Takes the numbers of closed standard streams, so that no file of the folder gets one, and what is written to a
@@ -206,6 +208,7 @@ impl<'a, R: Files<File = File>> DeskFolder<'a, R> {
         ensures sound { OnOk result (opening_of self.new ≡ opening_of self.old) }
         ensures failed { OnErr result (HasFailed (opening_of self.old) (opening_of self.new)) }
         ensures unopened { (opening_of self.new).is_opened ≡ (opening_of self.old).is_opened }
+        ensures path { path_of self.new ≡ path_of self.old }
     {
         match open_null(self.files) {
             Ok(handles) => Ok(handles),
@@ -222,6 +225,7 @@ impl<'a, R: Files<File = File>> DeskFolder<'a, R> {
     pub fn lock(&mut self) -> Result<(), LockFault>
         ensures told { TellsLock (opening_of self.old) (opening_of self.new) result }
         ensures unopened { (opening_of self.new).is_opened ≡ (opening_of self.old).is_opened }
+        ensures path { path_of self.new ≡ path_of self.old }
     {
         match lock_folder(self.files, self.path) {
             Ok(lock) => {
@@ -265,6 +269,12 @@ impl<'a, R: Files<File = File>> JournalPlace for DeskFolder<'a, R> {
             }
         }
     }
+
+    fn count_failed(&mut self, _journal: &JournalFile<File>) {
+        self.fail();
+    }
+
+    fn take_back(&mut self, _journal: JournalFile<File>) {}
 
     fn sync_names(&mut self) -> Result<(), Ending> {
         match sync_folder(&self.lock) {

@@ -2,6 +2,7 @@
 #![tactic(auto)]
 
 mod batches;
+mod beginning;
 mod beside;
 mod disk;
 mod finding;
@@ -15,7 +16,8 @@ mod sum;
 mod whole_lines;
 
 pub use batches::{RunTaker, hand_over, serve};
-pub use beside::{hand_over_missing, open_desk};
+pub use beginning::{BegunDesk, begin_desk};
+pub use beside::{hand_over_missing, open_desk, serve_begun};
 pub use disk::{DeskFolder, LockFault};
 pub use finding::{Found, find};
 pub use handing::{RunKind, RunSource, make_all};

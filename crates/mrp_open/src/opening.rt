@@ -1,13 +1,13 @@
 //! The opening of a desk: its journal is begun, and what was cut off is told.
 
-ghost use Rattle.std.specs.Prelude.{◌≡◌, ◌≤◌, ◌⊎◌, Err, IfErr, IfOk, IfSome, OnOk, option_map};
+ghost use Rattle.std.specs.Prelude.{◌≡◌, ◌≤◌, IfErr, IfOk, IfSome, OnOk};
 ghost use Rattle.mrp_rows.specs.Told.{HasRisenBy};
 ghost use Rattle.mrp_tables.specs.declared.limits.TheConstants.{MOST_ROWS};
-ghost use Rattle.mrp_journal.specs.Held.{Becomes, settled};
-ghost use Rattle.mrp_journal.specs.Journal.{BeginsSafely, IsFound, begun};
+ghost use Rattle.mrp_journal.specs.Held.{Becomes};
+ghost use Rattle.mrp_journal.specs.Journal.{BeginsSafely, IsFound};
 ghost use Rattle.mrp_commands.specs.declared.ending.Ending.TheVariants as ending;
-ghost use Rattle.mrp_open.specs.Ends.{IsTold};
-ghost use Rattle.mrp_open.specs.Opening.{HasFailed, IsFailing, lasting, with_journal};
+ghost use Rattle.mrp_open.specs.Ends.{IsTold, begun_held};
+ghost use Rattle.mrp_open.specs.Opening.{FailsToBeginJournal, lasting, with_journal};
 ghost use Rattle.mrp_open.specs.Start.{cut_number, cut_text};
 
 use crate::finding::Found;
@@ -21,7 +21,7 @@ use std::io::Write;
 // Begins a journal by what was found, and makes it durable.
 fn begin_store<S: Store>(journal: &mut S, found: &Found) -> Result<(), Ending>
     requires { IfSome (S.held journal.old) (IsFound found.now.script.items) }
-    ensures begun { OnOk result (S.held journal.new ≡ option_map (λ _. settled (begun found.now.script.items found.now.header.now)) (S.held journal.old)) }
+    ensures begun { OnOk result (S.held journal.new ≡ begun_held found.now (S.held journal.old)) }
     ensures safe { Becomes (BeginsSafely found.now.script.items found.now.header.now) (S.held journal.old) (S.held journal.new) }
     ensures write { IfErr result (λ end. (end ≡ ending.Write) × HasRisenBy 1 (S.failures journal.old) (S.failures journal.new)) }
 {
@@ -31,21 +31,42 @@ fn begin_store<S: Store>(journal: &mut S, found: &Found) -> Result<(), Ending>
     }
 }
 
+// Opens the journal of a folder, and begins it.
+fn open_begun<P: JournalPlace>(place: &mut P, found: &Found) -> Result<P::Journal, Ending>
+    requires { IfSome (P.left place.old) (IsFound found.now.script.items) }
+    ensures begun { IfOk result (λ journal. P.Journal.held journal ≡ begun_held found.now (P.left place.old)) }
+    ensures safe { IfOk result (λ journal. Becomes (BeginsSafely found.now.script.items found.now.header.now) (P.left place.old) (P.Journal.held journal)) }
+    ensures opened { OnOk result (P.opening place.new ≡ with_journal (P.opening place.old)) }
+    ensures fails { IfErr result (FailsToBeginJournal found.now (P.opening place.old) (P.opening place.new) (P.left place.old) (P.left place.new)) }
+{
+    let mut journal = place.open_journal()?;
+    match begin_store(&mut journal, found) {
+        Ok(()) => Ok(journal),
+        Err(end) => {
+            place.count_failed(&journal);
+            place.take_back(journal);
+            Err(end)
+        }
+    }
+}
+
 /// Begins the journal of a folder, by what was found there, and makes it and its name durable.
 ///
 /// Errors: how the desk ends.
 pub fn begin_journal<P: JournalPlace>(place: &mut P, found: &Found) -> Result<P::Journal, Ending>
     requires { IfSome (P.left place.old) (IsFound found.now.script.items) }
-    ensures begun { IfOk result (λ journal. P.Journal.held journal ≡ option_map (λ _. settled (begun found.now.script.items found.now.header.now)) (P.left place.old)) }
+    ensures begun { IfOk result (λ journal. P.Journal.held journal ≡ begun_held found.now (P.left place.old)) }
     ensures lasts { OnOk result (P.opening place.new ≡ lasting (with_journal (P.opening place.old))) }
-    ensures held { (P.opening place.new).is_held ≡ (P.opening place.old).is_held }
-    ensures end { IfErr result (λ end. (end ≡ ending.NoMemory) ⊎ (end ≡ ending.Write)) }
-    ensures write { result ≡ Err ending.Write → HasFailed (P.opening place.old) (P.opening place.new) ⊎ IsFailing P.Journal.failures }
+    ensures fails { IfErr result (FailsToBeginJournal found.now (P.opening place.old) (P.opening place.new) (P.left place.old) (P.left place.new)) }
 {
-    let mut journal = place.open_journal()?;
-    begin_store(&mut journal, found)?;
-    place.sync_names()?;
-    Ok(journal)
+    let journal = open_begun(place, found)?;
+    match place.sync_names() {
+        Ok(()) => Ok(journal),
+        Err(end) => {
+            place.take_back(journal);
+            Err(end)
+        }
+    }
 }
 
 /// The record that half a line would have been that is cut off, if there is one: 0 for the header.

@@ -85,11 +85,11 @@ cut_need {A} k b n r needs supplies e f =
     let over = moved_surplus {A = A} k (r + total needs) 0 b e supplies in
     λ j. filter is_positive (sym row j ++ sym rest j) ++ filter is_positive (over j)
 
-abbrev one : {A B : Type 0} → Option A → B → ℕ → List (Match A B)
+abbrev pub one : {A B : Type 0} → Option A → B → ℕ → List (Match A B)
 one need supply quantity = filter is_positive (record { need = need; supply = supply; quantity = quantity } ∷ [])
 
 -- the requirement ends no later than the supply
-matches_need : {A B : Type 0} (n : Amount A) (needs : List (Amount A)) (s : Amount B) (supplies : List (Amount B)) → n.quantity ≤ s.quantity
+pub matches_need : {A B : Type 0} (n : Amount A) (needs : List (Amount A)) (s : Amount B) (supplies : List (Amount B)) → n.quantity ≤ s.quantity
     → matches (n ∷ needs) (s ∷ supplies) ≡ one (Some n.of) s.of n.quantity ++ matches needs (record { of = s.of; quantity = s.quantity - n.quantity } ∷ supplies)
 matches_need {A} n needs s supplies le =
     let required : total (n ∷ needs) ≡ total needs + n.quantity = omega (arith, sum_by-cons (λ (a : Amount A). a.quantity) n needs) in
@@ -174,7 +174,7 @@ left_need {A} taken n needs supplies = by (nat_lt taken n.quantity) refl
         let none : n.quantity - taken ≡ 0 = omega (arith, ltb-false taken n.quantity e) in
         ap (λ (q : ℕ). matches (record { of = n.of; quantity = q } ∷ needs) supplies) none ∙ no_need n.of needs supplies
 
-left_supply : {A B : Type 0} (taken : ℕ) (needs : List (Amount A)) (s : Amount B) (supplies : List (Amount B)) → matches needs (record { of = s.of; quantity = s.quantity - taken } ∷ supplies) ≡ matches needs (served taken (s ∷ supplies))
+pub left_supply : {A B : Type 0} (taken : ℕ) (needs : List (Amount A)) (s : Amount B) (supplies : List (Amount B)) → matches needs (record { of = s.of; quantity = s.quantity - taken } ∷ supplies) ≡ matches needs (served taken (s ∷ supplies))
 left_supply {B = B} taken needs s supplies = by (nat_lt taken s.quantity) refl
   where
     by : (b : Bool) → nat_lt taken s.quantity ≡ b

@@ -4,6 +4,7 @@ pub mod Walk
 pub mod Rest
 pub mod Cuts
 pub mod Dropped
+pub mod Groups
 pub mod WeeksLeft
 pub mod Lists
 pub mod Own

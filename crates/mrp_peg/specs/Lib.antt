@@ -4,6 +4,7 @@ pub mod Weekly
 pub mod Placed
 pub mod Pegging
 pub mod Left
+pub mod Groups
 pub mod Rows
 pub mod Own
 pub mod Causes

@@ -11,6 +11,7 @@ mod ordering;
 mod parents;
 mod part;
 mod peg;
+mod peg_group;
 mod peg_walk;
 mod pegging;
 mod placing;
@@ -21,8 +22,10 @@ mod tracing;
 mod walking;
 mod where_used;
 
+pub use matching::Requirement;
 pub use mrp_item::Supplied;
 pub use peg::{Cause, Need, NeedKind, Peg};
+pub use peg_group::PegGroup;
 pub use peg_walk::PegWalk;
 pub use pegging::{item_pegs, pegs};
 pub use sourcing::sources;

@@ -1,7 +1,7 @@
 //! What is left of the requirements of an item. They are listed at once, or a week at a time if they may be
 //! many.
 
-ghost use Rattle.std.specs.Prelude.{◌≡◌, ◌<◌, ◌≤◌, slice_get, IfOk, OnOk};
+ghost use Rattle.std.specs.Prelude.{◌≡◌, ◌<◌, ◌≤◌, ◌+◌, drop, slice_get, slice_range, vec_len, IfOk, IfSome, OnOk};
 ghost use Rattle.std.specs.Option.{option_map};
 ghost use Rattle.mrp_item.specs.Inputs.{count};
 ghost use Rattle.mrp_peg.specs.Left.{IsFilled, listed_left, served, required_left};
@@ -117,11 +117,44 @@ impl<'a> NeedsLeft<'a> {
         ensures left { OnOk result (required_left self.new ≡ required_left self.old) }
         ensures filled { OnOk result (IsFilled self.new) }
         ensures first { IfOk result (λ first. option_map amount_required first ≡ slice_get (listed_left self.new) 0) }
+        ensures listed { IfOk result (λ first. IfSome first (λ _. self.new.place < vec_len self.new.needs)) }
     {
         if self.place >= self.needs.len() {
             self.fill()?;
         }
         Ok(self.needs.get(self.place).copied())
+    }
+
+    // The requirements that are left and listed.
+    #[inline(always)]
+    pub fn at_hand(&self) -> &[Requirement]
+        requires { self.now.place ≤ vec_len self.now.needs }
+        ensures { result.now ≡ drop self.now.place self.now.needs.items }
+    {
+        &self.needs[self.place..]
+    }
+
+    // The listed requirements between two places.
+    #[inline(always)]
+    pub fn between(&self, first: usize, past: usize) -> &[Requirement]
+        requires { (first ≤ past) × (past ≤ vec_len self.now.needs) }
+        ensures { result.now ≡ slice_range self.now.needs.items first past }
+    {
+        &self.needs[first..past]
+    }
+
+    // Passes the first listed requirements, and returns the place of the first.
+    #[inline(always)]
+    pub fn pass(&mut self, count: usize) -> usize
+        requires { self.old.place + count ≤ vec_len self.old.needs }
+        ensures first { result ≡ self.old.place }
+        ensures needs { self.new.needs ≡ self.old.needs }
+        ensures place { self.new.place ≡ self.old.place + count }
+        ensures to_come { (self.new.part ≡ self.old.part) × (self.new.week ≡ self.old.week) }
+    {
+        let first = self.place;
+        self.place = first + count;
+        first
     }
 
     // Takes pieces of the first listed requirement, and passes it once none are left.

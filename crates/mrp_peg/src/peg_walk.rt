@@ -3,6 +3,7 @@
 ghost use Rattle.std.specs.Prelude.{◌≡◌, ◌<◌, ◌≤◌, ◌+◌, ◌++◌, [], Some, length, slice_get, IfOk, OnOk};
 ghost use Rattle.std.specs.Option.{option_map};
 ghost use Rattle.mrp_item.specs.Inputs.{count};
+ghost use Rattle.mrp_peg.specs.Groups.{IsPassed, group_pegs, needs_at};
 ghost use Rattle.mrp_peg.specs.Left.{IsFilled, IsNext, amount_of_offer, listed_left, offered_left, pegs_between, pegs_left, shown, required_left};
 ghost use Rattle.mrp_peg.specs.Matching.{amount_required};
 ghost use Rattle.mrp_peg.specs.Pegging.{pegs_of, requirements, supplies};
@@ -11,6 +12,7 @@ ghost use Rattle.mrp_peg.specs.Units.{total};
 use crate::matching::{Offered, Requirement, lesser};
 use crate::needs_left::NeedsLeft;
 use crate::peg::Peg;
+use crate::peg_group::{PegGroup, count_whole};
 use crate::supplies_left::SuppliesLeft;
 use mrp_item::Plan;
 use mrp_qty::NoMemory;
@@ -114,5 +116,39 @@ impl<'a> PegWalk<'a> {
         ensures { IfOk result (λ peg. IsNext (pegs_left self.old) peg (pegs_left self.new)) }
     {
         next_peg(self.item, &mut self.needs, &mut self.supplies)
+    }
+
+    /// The next pegs, as far as one supply serves whole requirements of one week, and at most 64. There are none if
+    /// the next peg is another, or if there is no more.
+    ///
+    /// Errors: `NoMemory` if an allocation fails. What is left is then unspecified.
+    pub fn next_group(&mut self) -> Result<PegGroup, NoMemory>
+        ensures pegs { IfOk result (λ group. pegs_left self.old ≡ group_pegs self.new group ++ pegs_left self.new) }
+        ensures passed { IfOk result (IsPassed self.new) }
+    {
+        let item = self.item;
+        let (Some(offered), Some(first)) = (self.supplies.first(), self.needs.first()?) else {
+            return Ok(PegGroup::none(item));
+        };
+        let week = first.need.week;
+        let (count, pieces) = count_whole(self.needs.at_hand(), week, offered.quantity);
+        self.supplies.take(pieces);
+        let first = self.needs.pass(count);
+        Ok(PegGroup {
+            item,
+            week,
+            supply: offered.source,
+            first,
+            past: first + count,
+        })
+    }
+
+    /// The requirements of the group of pegs that was passed last.
+    #[inline(always)]
+    pub fn needs(&self, group: &PegGroup) -> &[Requirement]
+        requires { IsPassed self.now group.now }
+        ensures { result.now ≡ needs_at self.now group.now }
+    {
+        self.needs.between(group.first, group.past)
     }
 }

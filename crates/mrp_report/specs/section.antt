@@ -11,6 +11,7 @@ pub mod PegText
 pub mod PegCells
 pub mod PegShares
 pub mod PegRows
+pub mod PegGroups
 pub mod MessageText
 pub mod LoadText
 pub mod LoadRows

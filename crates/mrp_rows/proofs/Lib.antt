@@ -1,13 +1,19 @@
+mod BracketPlaces
 mod CellCuts
 pub mod CellPlaces
+mod CopiedLines
 mod CsvRecords
 mod CsvSteps
 mod DigitCells
 mod FirstRecords
-mod NameBytes
+mod HeldCells
 mod OnlyRows
+mod PaddedTexts
+mod PlainCells
+mod PlainStops
 mod RecordCuts
 pub mod JoinedParts
+mod MaskLanes
 pub mod SectionLaws
 pub mod SplitLines
 pub mod SplitPlaces

@@ -1,15 +1,12 @@
 -- What a text's first record and the text behind it say of its only record.
-use Rattle.std.proofs.Common.{arith, eq-eqb, take, ◌≡◌, ◌≢◌, ◌∙◌, ℕ, Bool, true, false, List, [], ◌∷◌, length, Option, Some, None, refl, suc}
-use Rattle.std.specs.Prelude.{◌==◌, not, if◌then◌else◌}
+use Rattle.std.proofs.Common.{arith, eq-eqb, take, ◌≡◌, ◌≢◌, ◌∙◌, ℕ, true, false, List, [], ◌∷◌, length, Some, None, refl, suc}
+use Rattle.std.specs.Prelude.{◌==◌, not}
 use Rattle.std.proofs.lemmas.Bool.{ne_eqb}
 use Rattle.std.proofs.lemmas.List.{take_all}
-use Rattle.csv.specs.declared.parser.State.TheVariants as st
 use Rattle.mrp_rows.specs.declared.fault.Table.{Table}
 use Rattle.mrp_rows.specs.Columns.{columns_of}
-use Rattle.mrp_rows.specs.Cutting.{BeginsWith}
 use Rattle.mrp_rows.specs.Left.{Cells}
 use Rattle.mrp_rows.specs.Only.{only_of}
-use Rattle.mrp_rows.specs.Records.{records_in}
 
 -- a record of another count of cells
 pub only-other : (table : Table) (number : ℕ) (cells : List (List ℕ)) (others : List (List (List ℕ))) → length cells ≢ length (columns_of table) → only_of table number (cells ∷ others) ≡ None

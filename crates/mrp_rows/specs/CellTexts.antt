@@ -1,6 +1,5 @@
 -- What contracts see of the texts of a record's cells: the cells, and the bytes of one that is begun (profile).
-use Rattle.std.specs.Prelude.{ℕ, List, [], drop, length}
-use Rattle.csv.specs.Records.{Rising, cut_from, last_end}
+use Rattle.std.specs.Prelude.{ℕ, ◌≤◌, All, List, [], drop, length, map, slice_range}
 use Rattle.mrp_rows.specs.declared.cell_texts.CellTexts.TheInside.{Inside}
 
 pub record Held : Type 0 where
@@ -10,12 +9,29 @@ pub record Held : Type 0 where
 abbrev pub none_held : Held
 none_held = record { cells = []; begun = [] }
 
+-- where a cell starts and ends
+abbrev pub Place : Type 0
+Place = ℕ × ℕ
+
+-- the bytes of a text at a place
+abbrev pub bytes_at : List ℕ → Place → List ℕ
+bytes_at text place = slice_range text place.0 place.1
+
+-- a place among so many bytes
+pub record IsWithin (size : ℕ) (place : Place) : Type 0 where
+  pub ordered : place.0 ≤ place.1
+  pub inside : place.1 ≤ size
+
 abbrev pub held_in : Inside → Held
 held_in texts = record {
-  cells = cut_from 0 texts.ends.items texts.bytes.items;
-  begun = drop (last_end 0 texts.ends.items) texts.bytes.items;
+  cells = map (bytes_at texts.bytes.items) texts.places.items;
+  begun = drop texts.begun texts.bytes.items;
 }
 
--- the cells end one after the other
+-- the cells are among the bytes, and so is the start of the one that is begun
+pub record AreHeld (bytes : List ℕ) (places : List Place) (begun : ℕ) : Type 0 where
+  pub within : All (IsWithin (length bytes)) places
+  pub start : begun ≤ length bytes
+
 abbrev pub IsHeld : Inside → Type 0
-IsHeld texts = Rising 0 texts.ends.items (length texts.bytes.items)
+IsHeld texts = AreHeld texts.bytes.items texts.places.items texts.begun

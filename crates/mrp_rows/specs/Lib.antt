@@ -7,11 +7,13 @@ pub mod Devices
 pub mod FaultText
 pub mod Joined
 pub mod Left
+pub mod Masks
 pub mod Name
 pub mod Next
 pub mod Only
 pub mod Padding
 pub mod Placing
+pub mod PlainLines
 pub mod Reading
 pub mod Records
 pub mod Shown

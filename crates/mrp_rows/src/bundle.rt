@@ -3,7 +3,7 @@
 //! A line begins at the start of the bundle and after each line feed or carriage return. A line
 //! whose first byte is `[` is a section line, wherever it is, even inside a quoted cell.
 
-ghost use Rattle.std.specs.Prelude.{◌≡◌, ◌≤◌, ◌<◌, ◌∷◌, ◌||◌, ◌==◌, ◌-◌, ◌+◌, IfSome, OnOk, length, take, drop, position, slice_index};
+ghost use Rattle.std.specs.Prelude.{◌≡◌, ◌≢◌, ◌≤◌, ◌<◌, ◌∷◌, ◌||◌, ◌==◌, ◌-◌, ◌+◌, ℕ, IfSome, OnOk, length, take, drop, position, slice_index};
 ghost use Rattle.std.specs.List.{list_all};
 ghost use Rattle.mrp_rows.specs.Tables.{table_index};
 ghost use Rattle.mrp_rows.specs.Bundle.{ends_line, lines_of, line_text, sections_in, table_of, without_mark, without_line_ends, section_text, all_texts, text_at, bundle_of};
@@ -11,6 +11,7 @@ ghost use Rattle.mrp_rows.specs.Placing.{texts_of, Places, PlacesAll, IsAtSectio
 
 use crate::fault::{Fault, Table};
 use crate::faults::{MISSING_SECTION, SECTION_TWICE, TEXT_BEFORE_SECTION, UNKNOWN_SECTION};
+use memchr::memchr;
 use std::marker::Model;
 
 /// The texts of the nine tables' sections, borrowed from the bundle.
@@ -66,6 +67,21 @@ fn begins_line(bytes: &[u8], at: usize) -> bool
     at == 0 || is_line_end(bytes[at - 1])
 }
 
+// The place of the first bracket from a place on, or the length where there is none.
+fn bracket_from(bytes: &[u8], from: usize) -> usize
+    requires { from ≤ length bytes.now }
+    ensures low { from ≤ result }
+    ensures within { result ≤ length bytes.now }
+    ensures bracket { result < length bytes.now → slice_index bytes.now result ≡ 91 }
+    ensures none { (k : ℕ) → from ≤ k → k < result → slice_index bytes.now k ≢ 91 }
+{
+    let (_, rest) = bytes.split_at(from);
+    match memchr(b'[', rest) {
+        Some(gap) => from + gap,
+        None => bytes.len(),
+    }
+}
+
 // The length of the text before the first section line.
 fn before_section(bytes: &[u8]) -> usize
     ensures within { result ≤ length bytes.now }
@@ -73,12 +89,14 @@ fn before_section(bytes: &[u8]) -> usize
     ensures sections { (sections_in bytes.now).1 ≡ (sections_in (drop result bytes.now)).1 }
     ensures front { result < length bytes.now → slice_index bytes.now result ≡ 91 }
 {
-    for (at, byte) in bytes.iter().enumerate() {
-        if *byte == b'[' && begins_line(bytes, at) {
+    let mut at = bracket_from(bytes, 0);
+    while at < bytes.len() {
+        if begins_line(bytes, at) {
             return at;
         }
+        at = bracket_from(bytes, at + 1);
     }
-    bytes.len()
+    at
 }
 
 // The length of the first line, with the byte that ends it.

@@ -1,9 +1,10 @@
 //! The texts of a record's cells, one after the other.
 
-ghost use Rattle.std.specs.Prelude.{◌≡◌, ◌<◌, ◌++◌, ◌∷◌, [], IfOk, OnOk, get_or, length, slice_index_or};
-ghost use Rattle.csv.specs.Records.{prev};
+ghost use Rattle.std.specs.Prelude.{◌≡◌, ◌<◌, ◌++◌, ◌∷◌, [], IfOk, OnOk, length, slice_index_or};
 ghost use Rattle.mrp_rows.specs.CellTexts.{none_held};
+ghost use Rattle.mrp_rows.specs.PlainLines.{IsTaken};
 
+use crate::plain_lines::copy_line;
 use mrp_qty::NoMemory;
 use std::alloc::Global;
 use std::marker::Model;
@@ -15,8 +16,10 @@ const USUAL_LENGTH: usize = 64;
 #[derive(Drop)]
 pub(crate) struct CellTexts {
     bytes: Vec<u8>,
-    // Where each cell ends.
-    ends: Vec<usize>,
+    // Where each cell starts and ends.
+    places: Vec<(usize, usize)>,
+    // Where the cell starts that is begun.
+    begun: usize,
 }
 
 impl Model for CellTexts {
@@ -29,16 +32,6 @@ impl Model for CellTexts {
     ghost invariant = { IsHeld };
 }
 
-// Where the cell at this place starts and ends.
-fn bounds(ends: &[usize], place: usize) -> (usize, usize)
-    requires { place < length ends.now }
-    ensures start { result.0 ≡ prev 0 ends.now place }
-    ensures end { result.1 ≡ get_or ends.now place 0 }
-{
-    let start = if place == 0 { 0 } else { ends[place - 1] };
-    (start, ends[place])
-}
-
 impl CellTexts {
     /// No cell, with room for so many.
     ///
@@ -47,8 +40,12 @@ impl CellTexts {
         ensures { IfOk result (λ texts. texts ≡ none_held) }
     {
         let bytes = Vec::with_capacity(alloc, USUAL_LENGTH)?;
-        let ends = Vec::with_capacity(alloc, cells)?;
-        Ok(CellTexts { bytes, ends })
+        let places = Vec::with_capacity(alloc, cells)?;
+        Ok(CellTexts {
+            bytes,
+            places,
+            begun: 0,
+        })
     }
 
     /// No cell, and no memory for any.
@@ -57,7 +54,8 @@ impl CellTexts {
     {
         CellTexts {
             bytes: Vec::new(alloc),
-            ends: Vec::new(alloc),
+            places: Vec::new(alloc),
+            begun: 0,
         }
     }
 
@@ -68,8 +66,12 @@ impl CellTexts {
         ensures { IfOk result (λ texts. texts ≡ self.now) }
     {
         let bytes = self.bytes.clone()?;
-        let ends = self.ends.clone()?;
-        Ok(CellTexts { bytes, ends })
+        let places = self.places.clone()?;
+        Ok(CellTexts {
+            bytes,
+            places,
+            begun: self.begun,
+        })
     }
 
     /// Takes all cells away.
@@ -77,14 +79,15 @@ impl CellTexts {
         ensures { self.new ≡ none_held }
     {
         self.bytes.clear();
-        self.ends.clear();
+        self.places.clear();
+        self.begun = 0;
     }
 
     /// How many cells there are.
     pub(crate) fn len(&self) -> usize
         ensures { result ≡ length self.now.cells }
     {
-        self.ends.len()
+        self.places.len()
     }
 
     /// The cell at this place.
@@ -92,7 +95,7 @@ impl CellTexts {
         requires { place < length self.now.cells }
         ensures { result.now ≡ slice_index_or self.now.cells place [] }
     {
-        let (start, end) = bounds(self.ends.as_slice(), place);
+        let (start, end) = self.places.as_slice()[place];
         &self.bytes.as_slice()[start..end]
     }
 
@@ -117,7 +120,22 @@ impl CellTexts {
         ensures { OnOk result (self.new ≡ record { cells = self.old.cells ++ (self.old.begun ∷ []); begun = [] }) }
     {
         let end = self.bytes.len();
-        self.ends.push(end)?;
+        self.places.push((self.begun, end))?;
+        self.begun = end;
         Ok(())
+    }
+
+    /// Takes the record that a text begins with in place of these cells, where its own stand in one line without quotes, so many at
+    /// most, and returns its length with the byte that ends it. It is not taken where it may be the last.
+    ///
+    /// Errors: `NoMemory` if an allocation fails.
+    pub(crate) fn take_line(&mut self, text: &[u8], most: usize) -> Result<Option<usize>, NoMemory>
+        ensures { IfOk result (IsTaken text.now most self.new) }
+    {
+        self.bytes.clear();
+        self.places.clear();
+        let taken = copy_line(text, most, &mut self.bytes, &mut self.places);
+        self.begun = self.bytes.len();
+        taken
     }
 }

@@ -199,12 +199,8 @@ fn cut_cell<'a>(
     })
 }
 
-// Cuts off the record that a text begins with, and adds its first cells, so many at most.
-pub(crate) fn cut_record<'a>(
-    text: &'a [u8],
-    most: usize,
-    cells: &mut CellTexts,
-) -> Result<End<'a>, NoMemory>
+// Cuts off the record that a text begins with, cell by cell, and adds the first ones, so many at most.
+fn cut_cells<'a>(text: &'a [u8], most: usize, cells: &mut CellTexts) -> Result<End<'a>, NoMemory>
     requires { cells.old ≡ none_held }
     ensures { IfOk result (λ end. BeginsWith st.StartField text.now most cells.new.cells end.count end.are_others_empty end.rest.now) }
 {
@@ -230,6 +226,25 @@ pub(crate) fn cut_record<'a>(
             });
         }
         rest = more;
+    }
+}
+
+// Cuts off the record that a text begins with, and adds its first cells, so many at most.
+pub(crate) fn cut_record<'a>(
+    text: &'a [u8],
+    most: usize,
+    cells: &mut CellTexts,
+) -> Result<End<'a>, NoMemory>
+    requires { cells.old ≡ none_held }
+    ensures { IfOk result (λ end. BeginsWith st.StartField text.now most cells.new.cells end.count end.are_others_empty end.rest.now) }
+{
+    match cells.take_line(text, most)? {
+        Some(len) => Ok(End {
+            count: cells.len(),
+            are_others_empty: true,
+            rest: &text[len..],
+        }),
+        None => cut_cells(text, most, cells),
     }
 }
 

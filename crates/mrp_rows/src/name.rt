@@ -1,17 +1,19 @@
 //! Names of items, centres and orders.
 
-ghost use Rattle.std.specs.Prelude.{◌≡◌, ◌≤◌, IsTrue, nat_eq, length, Option, Some, None, true};
-ghost use Rattle.std.specs.List.{list_all};
-ghost use Rattle.std.specs.Hash as fed;
+ghost use Rattle.std.specs.Prelude.{◌≡◌, ◌≤◌, ◌∷◌, [], nat_eq, length, true};
+ghost use Rattle.std.specs.List.{list_all, prefix_len};
 ghost use Rattle.std.specs.Cmp.Lexicographic.{pointwise, nat_list_eq_equiv};
 ghost use Rattle.std.specs.Cmp.{partial_equiv_from_equiv};
 ghost use Rattle.std.specs.Cmp.Rules.{hashing};
 ghost use Rattle.std.proofs.Common.{rules};
 ghost use Rattle.mrp_rows.specs.Name.{has_name_ends, is_name, is_printable, name_in};
+ghost use Rattle.mrp_rows.specs.Padding.{padded};
 
+use crate::masks::first_set;
 use std::fmt;
 use std::hash::{Hash, Hasher};
 use std::marker::Model;
+use std::simd::prelude::*;
 
 /// The most bytes that a name has (profile).
 pub const LONGEST_NAME: usize = 32;
@@ -61,12 +63,12 @@ impl Eq for Name {
 }
 
 impl Hash for Name {
-    ghost hash_input = { fed.slice fed.u8 };
+    ghost hash_input = { λ name. padded name ∷ [] };
 
     ghost respects_eq = { Prim.search (hashing, rules) };
 
     fn hash<H: Hasher>(&self, state: &mut H) {
-        self.as_bytes().hash(state);
+        state.write(&self.bytes);
     }
 }
 
@@ -85,12 +87,12 @@ impl Name {
     pub fn new(text: &[u8]) -> Option<Name>
         ensures { result ≡ name_in text.now }
     {
-        if !is_name_text(text) {
+        if text.len() > LONGEST_NAME {
             return None;
         }
-        let mut bytes = [0; LONGEST_NAME];
-        for (i, byte) in text.iter().enumerate() {
-            bytes[i] = *byte;
+        let bytes = padded(text);
+        if !is_name_text(text, &bytes) {
+            return None;
         }
         Some(Name {
             bytes,
@@ -108,26 +110,43 @@ impl Name {
     }
 }
 
-fn is_name_text(text: &[u8]) -> bool
-    ensures is { result ≡ is_name text.now }
-    ensures short { IsTrue result → length text.now ≤ LONGEST_NAME }
+// A text with zeros up to the length of the longest name.
+fn padded(text: &[u8]) -> [u8; LONGEST_NAME]
+    requires { length text.now ≤ LONGEST_NAME }
+    ensures { result ≡ padded text.now }
 {
-    if text.is_empty() || text.len() > LONGEST_NAME {
-        return false;
-    }
-    is_printable_text(text) && has_good_ends(text[0], text[text.len() - 1])
+    let mut bytes = [0; LONGEST_NAME];
+    bytes[..text.len()].copy_from_slice(text);
+    bytes
 }
 
-fn is_printable_text(text: &[u8]) -> bool
+// Whether a text is a name. The block has zeros behind it.
+fn is_name_text(text: &[u8], block: &[u8; LONGEST_NAME]) -> bool
+    requires short { length text.now ≤ LONGEST_NAME }
+    requires padded { block.now ≡ padded text.now }
+    ensures { result ≡ is_name text.now }
+{
+    !text.is_empty()
+        && is_printable_text(text, block)
+        && has_good_ends(text[0], text[text.len() - 1])
+}
+
+fn is_printable_text(text: &[u8], block: &[u8; LONGEST_NAME]) -> bool
+    requires { block.now ≡ padded text.now }
     ensures { result ≡ list_all is_printable text.now }
 {
-    text.iter().all(|byte| is_printable_byte(*byte))
+    printable_front(block) == text.len()
 }
 
-fn is_printable_byte(byte: u8) -> bool
-    ensures { result ≡ is_printable byte }
+// How many bytes of a block stand in front of the first that is not printable. It is not inlined: a block that becomes a name's would be
+// loaded byte by byte.
+#[inline(never)]
+fn printable_front(block: &[u8; LONGEST_NAME]) -> usize
+    ensures { result ≡ prefix_len is_printable block.now }
 {
-    byte >= b' ' && byte <= b'~'
+    let bytes = u8x32::from_array(*block);
+    let others = bytes.simd_lt(u8x32::splat(b' ')) | bytes.simd_gt(u8x32::splat(b'~'));
+    first_set(others.to_bitmask(), LONGEST_NAME)
 }
 
 fn has_good_ends(first: u8, last: u8) -> bool

@@ -37,7 +37,7 @@ impl<'a> Model for RunMaker<'a> {
 }
 
 impl<'a> RunMaker<'a> {
-    ghost use Rattle.std.specs.Prelude.{◌≡◌, ℕ, List, IfErr, IfOk, OnErr};
+    ghost use Rattle.std.specs.Prelude.{◌≡◌, ℕ, List, IfErr, IfOk, OnErr, OnOk};
     ghost use Rattle.std.specs.Int.{IsInRange};
     ghost use Rattle.mrp_master.specs.Supply.{supply_of};
     ghost use Rattle.mrp_book.specs.Booked.{AreBooked};
@@ -107,6 +107,7 @@ impl<'a> RunMaker<'a> {
         requires { AreBooked (supply_of self.old) run.now.snapshot.standing }
         ensures same { self.new ≡ self.old }
         ensures added { IfOk result (λ outcome. AddsBehind head.now (Comes (inputs_of self.old run.now.snapshot) outcome) name.now (D.named folder.old) (D.named folder.new)) }
+        ensures sound { OnOk result (D.failures folder.new ≡ D.failures folder.old) }
         ensures either { OnErr result (MayAddBehind head.now (Comes (inputs_of self.old run.now.snapshot)) name.now (D.named folder.old) (D.named folder.new)) }
         ensures failed { IfErr result (Fails (D.failures folder.old) (D.failures folder.new)) }
     {
@@ -141,6 +142,7 @@ impl<'a> RunMaker<'a> {
         ensures same { self.new ≡ self.old }
         ensures kept { (before : History) → IsRunAfter self.old before run.now
             → IfOk result (λ outcome. KeepsFile self.old before run.now outcome (D.named folder.old) (D.named folder.new)) }
+        ensures sound { OnOk result (D.failures folder.new ≡ D.failures folder.old) }
         ensures either { (before : History) → IsRunAfter self.old before run.now
             → OnErr result (MayKeepFile self.old before run.now (D.named folder.old) (D.named folder.new)) }
         ensures failed { IfErr result (FailsToMake (D.failures folder.old) (D.failures folder.new)) }

@@ -24,6 +24,7 @@ pub(crate) fn keep_refusal<D: Folder>(
     name: &str,
 ) -> Result<(), KeepFault<D::Part>>
     ensures added { OnOk result (Adds name.now (head.now ++ refusal_text refusal.now) (D.named folder.old) (D.named folder.new)) }
+    ensures sound { OnOk result (D.failures folder.new ≡ D.failures folder.old) }
     ensures either { OnErr result (MayAdd name.now (head.now ++ refusal_text refusal.now) (D.named folder.old) (D.named folder.new)) }
     ensures failed { IfErr result (Fails (D.failures folder.old) (D.failures folder.new)) }
 {
@@ -47,6 +48,7 @@ pub(crate) fn keep_report<D: Folder>(
     requires workers { IsInRange 1 MOST_WORKERS workers }
     requires plannable { IsPlannable plan.now.inputs }
     ensures added { IfOk result (λ outcome. AddsBehind head.now (Comes plan.now.inputs outcome) name.now (D.named folder.old) (D.named folder.new)) }
+    ensures sound { OnOk result (D.failures folder.new ≡ D.failures folder.old) }
     ensures either { OnErr result (MayAddBehind head.now (Comes plan.now.inputs) name.now (D.named folder.old) (D.named folder.new)) }
     ensures failed { IfErr result (Fails (D.failures folder.old) (D.failures folder.new)) }
 {

@@ -1,17 +1,20 @@
 //! The tables of a bundle.
 
 ghost use Rattle.mrp_tables.specs.declared.limits.TheConstants.{MOST_CENTRES, MOST_ITEMS, MOST_OPERATIONS, MOST_ROWS};
+ghost use Rattle.mrp_tables.specs.Parts.{AreFirst, GivesStockToRoutings};
+ghost use Rattle.mrp_tables.specs.Readers.{GivesTable};
 
 use crate::first_tables::FirstTables;
 use crate::item::Item;
 use crate::items::Items;
+use crate::master::Master;
 use crate::master_and_script::MasterAndScript;
 use crate::rows::{BillLine, Centre, MasterRow, Operation, Receipt, ScriptRow, StockRow};
-use crate::script::script_row;
+use crate::script::{Script, script_row};
 use crate::stock_to_routings::StockToRoutings;
 use crate::version::{LeadUnit, Version};
 use mrp_cal::Calendar;
-use mrp_rows::{Fault, Name, Row, Sections};
+use mrp_rows::{Fault, Name, Row, Sections, Table};
 use std::alloc::Global;
 use std::marker::Model;
 use std::thread;
@@ -64,12 +67,46 @@ impl Model for Tables {
     }) };
 }
 
+// The tables from the stock to the routings and, in a thread of its own if one can be started, the master schedule.
+fn read_to_master(
+    rt: &impl Threads,
+    alloc: Global,
+    sections: &Sections<'_>,
+    first: &FirstTables,
+) -> (
+    Result<StockToRoutings, Fault>,
+    Result<Vec<MasterRow>, Fault>,
+)
+    requires { AreFirst sections.now first.now }
+    ensures rows { GivesStockToRoutings sections.now result.0 }
+    ensures master { GivesTable sections.now Table.Master result.1 (λ rows. rows.items) }
+{
+    let read_master = move || -> Result<Vec<MasterRow>, Fault>
+        requires { AreFirst sections.now first.now }
+        ensures { GivesTable sections.entry.now Table.Master result (λ rows. rows.items) }
+    {
+        Master::read(
+            alloc,
+            sections,
+            first.version,
+            &first.calendar,
+            &first.items,
+        )
+    };
+    let read_rows = move || -> Result<StockToRoutings, Fault>
+        requires { AreFirst sections.now first.now }
+        ensures { GivesStockToRoutings sections.entry.now result }
+    { StockToRoutings::read(alloc, sections, first) };
+    let (master, rows) = thread::join(rt, read_master, read_rows);
+    (rows, master)
+}
+
 impl Tables {
     ghost use Rattle.std.specs.Prelude.{◌≡◌, ◌<◌, ◌≤◌, ℕ, List, All, IfOk, IfSome, length};
     ghost use Rattle.mrp_tables.specs.Centres.{centre_names};
     ghost use Rattle.mrp_tables.specs.Facts.{AllDiffer, IsBillLine, IsCentre, IsItem, IsMasterRow, IsOperation, IsReceipt, IsScriptRow, IsStockRow, NumbersRise, RowsRise};
     ghost use Rattle.mrp_tables.specs.Items.{names_of, place_of};
-    ghost use Rattle.mrp_tables.specs.Parts.{AreFirst, AreMasterAndScript, AreStockToRoutings, GivesMasterAndScript, GivesStockToRoutings, tables_from};
+    ghost use Rattle.mrp_tables.specs.Parts.{AreMasterAndScript, AreStockToRoutings, tables_from};
     ghost use Rattle.mrp_tables.specs.Receipts.{orders_of};
     ghost use Rattle.mrp_tables.specs.Routings.{operations_of};
     ghost use Rattle.mrp_tables.specs.Script.{script_row};
@@ -96,9 +133,9 @@ impl Tables {
         Ok(Tables::of(first, rows, last))
     }
 
-    /// The same, with the master schedule and the script read in parallel with the tables from the stock
-    /// to the routings: in a thread of their own, or after these if none can be started. Of two refusals
-    /// that of the earlier table is still the one returned.
+    /// The same, with the master schedule and the script each read in parallel with the tables from the stock
+    /// to the routings: in threads of their own, or after these if none can be started. Of several refusals
+    /// that of the earliest table is still the one returned.
     ///
     /// Errors: as `read`.
     pub fn read_parallel(
@@ -110,18 +147,23 @@ impl Tables {
     {
         let first = FirstTables::read(alloc, sections)?;
         let beside = &first;
-        let read_last = move || -> Result<MasterAndScript, Fault>
+        let read_script = move || -> Result<Vec<ScriptRow>, Fault>
             requires { AreFirst sections.now beside.now }
-            ensures { GivesMasterAndScript sections.entry.now result }
-        { MasterAndScript::read(alloc, sections, beside) };
-        let read_rows = move || -> Result<StockToRoutings, Fault>
+            ensures { GivesTable sections.entry.now Table.Script result (λ rows. rows.items) }
+        { Script::read(alloc, sections, &beside.calendar, &beside.items) };
+        let read_others = move || -> (
+            Result<StockToRoutings, Fault>,
+            Result<Vec<MasterRow>, Fault>,
+        )
             requires { AreFirst sections.now beside.now }
-            ensures { GivesStockToRoutings sections.entry.now result }
-        { StockToRoutings::read(alloc, sections, beside) };
-        let (last, rows) = thread::join(rt, read_last, read_rows);
+            ensures rows { GivesStockToRoutings sections.entry.now result.0 }
+            ensures master { GivesTable sections.entry.now Table.Master result.1 (λ rows. rows.items) }
+        { read_to_master(rt, alloc, sections, beside) };
+        let (script, (rows, master)) = thread::join(rt, read_script, read_others);
         let rows = rows?;
-        let last = last?;
-        Ok(Tables::of(first, rows, last))
+        let master = master?;
+        let script = script?;
+        Ok(Tables::of(first, rows, MasterAndScript { master, script }))
     }
 
     // The tables of their three parts.

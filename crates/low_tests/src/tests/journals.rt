@@ -8,9 +8,9 @@ use super::same;
 use super::told::{counts, fake_writer};
 use mrp_journal::{MemoryStore, begin, settle};
 use mrp_rows::Told;
-use mrp_rows::devices::{Act, Fussy, Stretch};
+use mrp_rows::devices::{Act, Stretch};
 use std::alloc::Global;
-use std::io::ErrorKind;
+use std::io::{BufWriter, ErrorKind, Write};
 
 const HEADER: &[u8] = b"desk,call,item,date,quantity,number\n";
 
@@ -19,7 +19,7 @@ const RECORD: &[u8] = b"1,run,,,,\n";
 const ANSWER: &[u8] = b"1,1,run,,,,,front,1\n";
 
 // Begins a journal in an empty file, and settles a batch in it. Whether that succeeds.
-fn is_settled(journal: &mut MemoryStore, out: &mut Told<Fussy<'_>>) -> bool
+fn is_settled<W: Write>(journal: &mut MemoryStore, out: &mut Told<W>) -> bool
     requires { memory_held journal.old ≡ settled [] }
 {
     begin(journal, b"", HEADER).is_ok() && settle(journal, RECORD, ANSWER, out).is_ok()
@@ -73,5 +73,17 @@ fn a_flush_is_tried_again(rt: HostRuntime) {
     same(&rt, is_settled(&mut journal, &mut out), true);
     same(&rt, counts(&out), (4, 2, 0));
     drop(out);
+    drop(journal);
+}
+
+#[test]
+fn answers_do_not_wait_in_a_buffer(rt: HostRuntime) {
+    let mut journal = MemoryStore::new(Vec::new(rt.alloc()), 9);
+    let buffer = BufWriter::new(rt.alloc(), Vec::new(rt.alloc())).expect(&rt, "memory");
+    let mut out = Told::new(buffer);
+    same(&rt, is_settled(&mut journal, &mut out), true);
+    let buffer = out.into_inner();
+    same(&rt, buffer.get_ref().as_slice(), ANSWER);
+    drop(buffer);
     drop(journal);
 }

@@ -24,6 +24,7 @@ use mrp_report::{write_history, write_report};
 use mrp_rows::Told;
 use std::alloc::Global;
 use std::io::Write;
+use std::mem;
 use std::sync::{Arc, Wait};
 use std::thread::Threads;
 
@@ -111,12 +112,14 @@ fn write_reports<W: Write>(
             last = Some(plan);
         }
     }
+    // The program ends, and gives all memory back at once. A plan's many rows one by one would keep the user waiting.
+    mem::forget(last);
     Ok(())
 }
 
 /// Writes a planned day, and consumes it: the history, and then the report of each run, whose plan is made again, but
 /// the first one's, by net change from the run before. `workers` threads (1 to 64, as the caller guarantees) make the
-/// rows of a report.
+/// rows of a report. Once all is written, the memory of the last plan is kept until the program ends.
 ///
 /// Errors: `Write` if a write failed in this call, or more than 1,000,000 were interrupted in the history or
 /// in one report; otherwise `NoMemory` if an allocation fails. A prefix of the text has been written then.

@@ -8,6 +8,7 @@ pub mod HistoryTexts
 pub mod SectionTexts
 pub mod PegsWritten
 pub mod PegShares
+pub mod PegGroups
 pub mod PromiseSums
 pub mod PromiseBookings
 pub mod PromiseSheets

@@ -5,7 +5,7 @@ use Rattle.mrp_report.specs.section.PegText.{peg_text}
 use Rattle.mrp_report.specs.declared.section.pegs.PegRows.{PegRows}
 
 abbrev pub rows_left : PegRows → List ℕ
-rows_left r = flat_map (peg_text r.readings.now.names.tables.now r.name.now r.orders.now) (pegs_left r.walk)
+rows_left r = flat_map (peg_text r.item.readings.now.names.tables.now r.item.name.now r.item.orders.now) (pegs_left r.walk)
 
 abbrev pub count_left : PegRows → ℕ
 count_left r = length (pegs_left r.walk)

@@ -1,10 +1,11 @@
 //! The section `pegs`.
 
-ghost use Rattle.std.specs.Prelude.{◌≡◌, ◌<◌, [], ◌∷◌, ◌++◌, IfOk, IfSome, IsTrue, OnOk, decimal, false};
+ghost use Rattle.std.specs.Prelude.{◌≡◌, ◌<◌, [], ◌∷◌, ◌++◌, All, IfOk, IfSome, IsTrue, OnOk, decimal, false, flat_map};
 ghost use Rattle.mrp_report.specs.page.CellOf.{cell_of};
 ghost use Rattle.mrp_report.specs.section.PegText.{need_cells, peg_text};
 ghost use Rattle.mrp_item.specs.Inputs.{count};
 ghost use Rattle.mrp_item.specs.Plan.{outcome_of, plan_in};
+ghost use Rattle.mrp_report.specs.section.PegGroups.{AreCells, whole_text};
 ghost use Rattle.mrp_report.specs.section.PegRows.{IsAdded, count_left, rows_left};
 ghost use Rattle.mrp_report.specs.ReportText.{pegged_text};
 ghost use Rattle.mrp_report.specs.section.PegCells.{needed_cells, parent_text};
@@ -16,7 +17,7 @@ use crate::section::readings::Readings;
 use crate::section::shop_names::ShopNames;
 use crate::section::source::{source_cell, source_word};
 use mrp_item::Order;
-use mrp_peg::{Need, NeedKind, Peg, PegWalk};
+use mrp_peg::{Need, NeedKind, Peg, PegGroup, PegWalk, Requirement};
 use mrp_qty::NoMemory;
 use std::alloc::Global;
 
@@ -140,13 +141,117 @@ impl Line for ParentLine<'_> {
     }
 }
 
+// What the rows of a group of pegs share, where it stands ready.
+#[derive(Clone, Copy)]
+struct GroupCells<'a> {
+    week: &'a ReadyCells,
+    source: &'a ReadyCells,
+}
+
+// What an item's rows are made from.
+#[derive(Clone, Copy)]
+struct ItemRows<'a> {
+    readings: &'a Readings<'a>,
+    name: &'a CsvName,
+    orders: &'a [Order],
+}
+
+impl<'a> ItemRows<'a> {
+    // What a group's rows share, if it stands ready.
+    #[inline(always)]
+    fn cells(&self, group: &PegGroup) -> Option<GroupCells<'a>>
+        ensures { IfSome result (λ cells. AreCells self.now.readings.now.names.tables.now self.now.orders.now group.now cells) }
+    {
+        let shares = &self.readings.pegs;
+        Some(GroupCells {
+            week: shares.week(group.week)?,
+            source: shares.source(group.supply, self.orders)?,
+        })
+    }
+
+    // The row of a requirement of a group, if all that it shares stands ready.
+    #[inline(always)]
+    fn parent_line(
+        &self,
+        group: &PegGroup,
+        cells: Option<GroupCells<'a>>,
+        requirement: &Requirement,
+    ) -> Option<ParentLine<'a>>
+        requires cells { IfSome cells (λ cells. AreCells self.now.readings.now.names.tables.now self.now.orders.now group.now cells) }
+        requires week { requirement.now.need.week ≡ group.now.week }
+        ensures { IfSome result (λ line. parent_text line ≡ whole_text self.now.readings.now.names.tables.now self.now.name.now self.now.orders.now group.now requirement.now) }
+    {
+        let cells = cells?;
+        let NeedKind::Parent { line, order } = requirement.need.kind else {
+            return None;
+        };
+        Some(ParentLine {
+            name: self.name,
+            week: cells.week,
+            order,
+            line: self.readings.pegs.line(line)?,
+            source: cells.source,
+            quantity: requirement.quantity.value(),
+        })
+    }
+
+    // Adds a peg.
+    fn add(&self, page: &mut Page, peg: &Peg) -> Result<(), NoMemory>
+        ensures { OnOk result (page.new ≡ page.old ++ peg_text self.now.readings.now.names.tables.now self.now.name.now self.now.orders.now peg.now) }
+    {
+        peg_row(page, &self.readings.names, self.name, self.orders, peg)
+    }
+
+    // Adds the peg of a requirement of a group.
+    #[inline(always)]
+    fn add_whole(
+        &self,
+        page: &mut Page,
+        group: &PegGroup,
+        cells: Option<GroupCells<'a>>,
+        requirement: &Requirement,
+    ) -> Result<(), NoMemory>
+        requires cells { IfSome cells (λ cells. AreCells self.now.readings.now.names.tables.now self.now.orders.now group.now cells) }
+        requires week { requirement.now.need.week ≡ group.now.week }
+        ensures { OnOk result (page.new ≡ page.old ++ whole_text self.now.readings.now.names.tables.now self.now.name.now self.now.orders.now group.now requirement.now) }
+    {
+        match self.parent_line(group, cells, requirement) {
+            Some(line) => page.line(&line),
+            None => self.add(
+                page,
+                &Peg {
+                    item: group.item,
+                    need: Some(requirement.need),
+                    supply: group.supply,
+                    quantity: requirement.quantity,
+                },
+            ),
+        }
+    }
+
+    // Adds the pegs of a group, which are for these requirements.
+    fn add_group(
+        &self,
+        page: &mut Page,
+        group: &PegGroup,
+        needs: &[Requirement],
+    ) -> Result<(), NoMemory>
+        requires { All (λ requirement. requirement.need.week ≡ group.now.week) needs.now }
+        ensures { OnOk result (page.new ≡ page.old ++ flat_map (whole_text self.now.readings.now.names.tables.now self.now.name.now self.now.orders.now group.now) needs.now) }
+    {
+        let cells = self.cells(group);
+        for requirement in needs {
+            self.add_whole(page, group, cells, requirement)?;
+        }
+        Ok(())
+    }
+}
+
 // The pegs of an item that are still to be put on a page.
 #[derive(Drop)]
 pub(crate) struct PegRows<'a> {
     walk: PegWalk<'a>,
-    readings: &'a Readings<'a>,
-    name: &'a CsvName,
-    orders: &'a [Order],
+    item: ItemRows<'a>,
 }
 
 impl<'a> PegRows<'a> {
@@ -162,45 +267,16 @@ impl<'a> PegRows<'a> {
         let walk = PegWalk::of(alloc, readings.plan, item)?;
         Ok(PegRows {
             walk,
-            readings,
-            name: readings.names.item(item),
-            orders: readings.plan.orders(item),
+            item: ItemRows {
+                readings,
+                name: readings.names.item(item),
+                orders: readings.plan.orders(item),
+            },
         })
-    }
-
-    // The row of a peg, if all that it shares stands ready.
-    #[inline(always)]
-    fn parent_line(&self, peg: &Peg) -> Option<ParentLine<'a>>
-        ensures { IfSome result (λ line. parent_text line ≡ peg_text self.now.readings.now.names.tables.now self.now.name.now self.now.orders.now peg.now) }
-    {
-        let need = peg.need?;
-        let NeedKind::Parent { line, order } = need.kind else {
-            return None;
-        };
-        let shares = &self.readings.pegs;
-        Some(ParentLine {
-            name: self.name,
-            week: shares.week(need.week)?,
-            order,
-            line: shares.line(line)?,
-            source: shares.source(peg.supply, self.orders)?,
-            quantity: peg.quantity.value(),
-        })
-    }
-
-    // Adds a peg.
-    #[inline(always)]
-    fn add(&self, page: &mut Page, peg: &Peg) -> Result<(), NoMemory>
-        ensures { OnOk result (page.new ≡ page.old ++ peg_text self.now.readings.now.names.tables.now self.now.name.now self.now.orders.now peg.now) }
-    {
-        match self.parent_line(peg) {
-            Some(line) => page.line(&line),
-            None => peg_row(page, &self.readings.names, self.name, self.orders, peg),
-        }
     }
 
     // Adds the next peg; returns whether there was one.
-    pub(crate) fn add_next(&mut self, page: &mut Page) -> Result<bool, NoMemory>
+    fn add_peg(&mut self, page: &mut Page) -> Result<bool, NoMemory>
         ensures added { IfOk result (λ more. IsTrue more → IsAdded page.old page.new (rows_left self.old) (rows_left self.new)) }
         ensures fewer { IfOk result (λ more. IsTrue more → count_left self.new < count_left self.old) }
         ensures all { IfOk result (λ more. more ≡ false → (rows_left self.old ≡ []) × (page.new ≡ page.old)) }
@@ -208,7 +284,22 @@ impl<'a> PegRows<'a> {
         let Some(peg) = self.walk.next()? else {
             return Ok(false);
         };
-        self.add(page, &peg)?;
+        self.item.add(page, &peg)?;
+        Ok(true)
+    }
+
+    // Adds the next pegs; returns whether there were any.
+    pub(crate) fn add_next(&mut self, page: &mut Page) -> Result<bool, NoMemory>
+        ensures added { IfOk result (λ more. IsTrue more → IsAdded page.old page.new (rows_left self.old) (rows_left self.new)) }
+        ensures fewer { IfOk result (λ more. IsTrue more → count_left self.new < count_left self.old) }
+        ensures all { IfOk result (λ more. more ≡ false → (rows_left self.old ≡ []) × (page.new ≡ page.old)) }
+    {
+        let group = self.walk.next_group()?;
+        let needs = self.walk.needs(&group);
+        if needs.is_empty() {
+            return self.add_peg(page);
+        }
+        self.item.add_group(page, &group, needs)?;
         Ok(true)
     }
 }

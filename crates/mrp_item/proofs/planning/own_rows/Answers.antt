@@ -18,18 +18,18 @@ use Rattle.mrp_item.proofs.OwnPlan.{gross-over, past-over, starts-over, within-p
 use Rattle.mrp_item.proofs.planning.own_rows.Goals as goal
 
 pub returns-in_err-gross-clause-over : goal.returns-in_err-gross-clause-over
-returns-in_err-gross-clause-over c =
+returns-in_err-gross-clause-over g c =
     let p = err_from_is_err_and c.from_residual.result c.from_residual.ensures.1 in
     let s = c.args.inputs.now in
     rw (p.1, p.2) (λ over. gross-over s (slice_index c.shop-ranked.result.now.codes) c.args.item c.shop-ranked.ensures.ranked c.requires.ready (c.in_err-gross.ensures.over over))
 
 pub own_receipts-requires-clause-weeks : goal.own_receipts-requires-clause-weeks
-own_receipts-requires-clause-weeks c =
+own_receipts-requires-clause-weeks g c =
     let s = c.args.inputs.now in
     ap length c.in_ok-gross.ensures.value ∙ length-row (gross_in s c.args.item (outcome_of s)) (horizon s)
 
 pub returns-in_err-receipts-clause-over : goal.returns-in_err-receipts-clause-over
-returns-in_err-receipts-clause-over c =
+returns-in_err-receipts-clause-over g c =
     let p = err_from_is_err_and c.from_residual-in_err-receipts.result c.from_residual-in_err-receipts.ensures.1 in
     let s = c.args.inputs.now in
     let i = c.args.item in
@@ -37,13 +37,13 @@ returns-in_err-receipts-clause-over c =
     (let P : List _ → Type 0 = λ gross. ArePast s i gross in subst P c.in_ok-gross.ensures.value (c.in_err-receipts.ensures.over over)))
 
 pub orders_for-requires-clause-weeks : goal.orders_for-requires-clause-weeks
-orders_for-requires-clause-weeks c =
+orders_for-requires-clause-weeks g c =
     let s = c.args.inputs.now in
     let i = c.args.item in
     ap length (c.as_slice.ensures ∙ c.in_ok-receipts.ensures.value) ∙ length-row (receipts (rule_of (item_at s i)) (horizon s) (in_week (needs_of s i c.in_ok-gross.gross))) (horizon s)
 
 pub returns-in_err-orders_for-clause-over : goal.returns-in_err-orders_for-clause-over
-returns-in_err-orders_for-clause-over c =
+returns-in_err-orders_for-clause-over g c =
     let p = err_from_is_err_and c.from_residual-in_err-orders_for.result c.from_residual-in_err-orders_for.ensures.1 in
     let s = c.args.inputs.now in
     let i = c.args.item in
@@ -52,7 +52,7 @@ returns-in_err-orders_for-clause-over c =
     (omega (arith, c.in_err-orders_for.ensures.over over, ap (λ xs. sum_by (λ (o : Order). o.start) (orders_of s i xs)) are)))
 
 pub returns-clause-rows : goal.returns-clause-rows
-returns-clause-rows c =
+returns-clause-rows g c =
     let s = c.args.inputs.now in
     let i = c.args.item in
     let gross = c.in_ok-gross.ensures.value in

@@ -1,18 +1,14 @@
-use Rattle.std.proofs.Common.{◌≡◌, ◌∙◌, sym}
-use Rattle.std.specs.Prelude.{slice_index}
-use Rattle.mrp_item.proofs.OwnPlan.{blocked, told}
+use Rattle.std.proofs.Common.{◌≡◌, ◌∙◌, ap, length}
+use Rattle.mrp_tables.specs.Tables.{Tables}
+use Rattle.mrp_bill.specs.Bill.{parents_of}
+use Rattle.mrp_item.specs.Inputs.{Inputs, count}
+use Rattle.mrp_item.proofs.Parents.{parents-listed}
 use Rattle.mrp_item.proofs.planning.plan_item.Goals as goal
 
-pub blocked-requires : goal.blocked-requires
-blocked-requires c =
+pub plan_among-requires-clause-parents : goal.plan_among-requires-clause-parents
+plan_among-requires-clause-parents c =
     let s = c.args.inputs.now.value in
     let i = c.args.item in
-    let same : c.in_ok-source.source.value ≡ s = c.in_ok-source.ensures.cases in
-    let ranked = rw (c.deref.ensures ∙ same) at c.shop-ranked.ensures.ranked in
-    rw same (blocked s (slice_index c.shop-ranked.result.now.codes) i ranked (sym (told s i c.args.parents.now c.requires.parents) ∙ sym c.are_planned.ensures ∙ c.if-not-are_planned.true))
-
-pub own_rows-requires-clause-ready : goal.own_rows-requires-clause-ready
-own_rows-requires-clause-ready c =
-    let s = c.args.inputs.now.value in
-    let i = c.args.item in
-    rw c.deref-2.ensures (sym (told s i c.args.parents.now c.requires.parents) ∙ sym c.are_planned.ensures ∙ c.if-not-are_planned.false)
+    let are : c.parents.result.now ≡ parents_of s.tables.bills (count s) i =
+    c.parents.ensures ∙ ap (λ (t : Tables). parents_of t.bills (length t.items) i) (c.shop.ensures.tables ∙ ap (λ (x : Inputs). x.tables) c.deref.ensures) in
+    parents-listed s i c.parents.result.now c.args.parents.now are c.requires.parents

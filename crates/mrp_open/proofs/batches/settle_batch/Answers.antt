@@ -2,7 +2,6 @@ use Rattle.std.proofs.Common.{◌≡◌, ◌≤◌, ◌-◌, ℕ, ap, arith, dro
 use Rattle.std.specs.List.{All}
 use Rattle.std.proofs.lemmas.List.{length-drop, take_all}
 use Rattle.std.proofs.lemmas.List.Elements.{All-drop}
-use Rattle.mrp_rows.specs.Told.{inner_of}
 use Rattle.mrp_tables.specs.Tables.{Tables}
 use Rattle.mrp_turn.specs.declared.log.Entry.{Entry}
 use Rattle.mrp_book.specs.declared.call.Call.{Call}
@@ -10,8 +9,8 @@ use Rattle.mrp_book.specs.declared.reply.Reply.{Reply}
 use Rattle.mrp_book.specs.Standing.{History}
 use Rattle.mrp_intake.specs.Lines.{told_lines}
 use Rattle.mrp_runs.specs.File.{IsRun}
-use Rattle.mrp_open.specs.Runs.{HandsOverAll, IsRunOf}
-use Rattle.mrp_open.specs.Served.{Stand}
+use Rattle.mrp_open.specs.Runs.{HandsOverAll, IsRunOf, handed_of}
+use Rattle.mrp_open.specs.Served.{stand_of}
 use Rattle.mrp_open.proofs.Runs.{runs-of}
 use Rattle.mrp_open.proofs.Settled.{at-least, same-tables, settles-runs}
 use Rattle.mrp_open.proofs.batches.settle_batch.Goals as goal
@@ -22,8 +21,9 @@ rest-of h n within = take_all (length h - n) (drop n h) (omega (arith, length-dr
 
 pub slice_bounds-hand_over-count : goal.slice_bounds-hand_over-count
 slice_bounds-hand_over-count g c =
-    let old : Stand = record { desk = c.args.desk.now; journal = g.S.Store.held c.args.journal.now; output = g.W.Write.contents (inner_of c.args.output.now) } in
-    let new : Stand = record { desk = c.answer_batch.new.desk; journal = g.S.Store.held c.answer_batch.new.journal; output = g.W.Write.contents (inner_of c.answer_batch.new.output) } in
+    let stand = stand_of g.S.Store.held g.S.Store.failures g.W.Write.contents in
+    let old = stand c.args.desk.now c.args.journal.now c.args.output.now in
+    let new = stand c.answer_batch.new.desk c.answer_batch.new.journal c.answer_batch.new.output in
     omega (
       arith,
       at-least (told_lines c.args.batch.now) old new c.in-Ok.ensures.settled,
@@ -33,8 +33,9 @@ slice_bounds-hand_over-count g c =
 
 pub slice_bounds-hand_over-start : goal.slice_bounds-hand_over-start
 slice_bounds-hand_over-start g c =
-    let old : Stand = record { desk = c.args.desk.now; journal = g.S.Store.held c.args.journal.now; output = g.W.Write.contents (inner_of c.args.output.now) } in
-    let new : Stand = record { desk = c.answer_batch.new.desk; journal = g.S.Store.held c.answer_batch.new.journal; output = g.W.Write.contents (inner_of c.answer_batch.new.output) } in
+    let stand = stand_of g.S.Store.held g.S.Store.failures g.W.Write.contents in
+    let old = stand c.args.desk.now c.args.journal.now c.args.output.now in
+    let new = stand c.answer_batch.new.desk c.answer_batch.new.journal c.answer_batch.new.output in
     let within : length c.entries-before.result.now ≤ length c.entries.result.now = omega (
       arith,
       at-least (told_lines c.args.batch.now) old new c.in-Ok.ensures.settled,
@@ -45,8 +46,9 @@ slice_bounds-hand_over-start g c =
 
 pub hand_over-requires : goal.hand_over-requires
 hand_over-requires g c =
-    let old : Stand = record { desk = c.args.desk.now; journal = g.S.Store.held c.args.journal.now; output = g.W.Write.contents (inner_of c.args.output.now) } in
-    let new : Stand = record { desk = c.answer_batch.new.desk; journal = g.S.Store.held c.answer_batch.new.journal; output = g.W.Write.contents (inner_of c.answer_batch.new.output) } in
+    let stand = stand_of g.S.Store.held g.S.Store.failures g.W.Write.contents in
+    let old = stand c.args.desk.now c.args.journal.now c.args.output.now in
+    let new = stand c.answer_batch.new.desk c.answer_batch.new.journal c.answer_batch.new.output in
     let n : ℕ = length c.entries-before.result.now in
     let h : History = c.entries.result.now in
     let within : n ≤ length h = omega (
@@ -60,10 +62,11 @@ hand_over-requires g c =
     runs-of g.T.RunTaker.takes c.answer_batch.new.desk.tables h c.entries.ensures.legal (λ run is. c.requires.taken run (subst (λ (t : Tables). IsRun t run) same is)) in
     subst (λ (es : History). All (IsRunOf g.T.RunTaker.takes) es) (sym (rest-of h n within)) (All-drop (IsRunOf g.T.RunTaker.takes) n h all)
 
-pub returns-in-Ok-clause-settles : goal.returns-in-Ok-clause-settles
-returns-in-Ok-clause-settles g c =
-    let old : Stand = record { desk = c.args.desk.now; journal = g.S.Store.held c.args.journal.now; output = g.W.Write.contents (inner_of c.args.output.now) } in
-    let new : Stand = record { desk = c.answer_batch.new.desk; journal = g.S.Store.held c.answer_batch.new.journal; output = g.W.Write.contents (inner_of c.answer_batch.new.output) } in
+pub returns-in-Ok : goal.returns-in-Ok
+returns-in-Ok g c =
+    let stand = stand_of g.S.Store.held g.S.Store.failures g.W.Write.contents in
+    let old = stand c.args.desk.now c.args.journal.now c.args.output.now in
+    let new = stand c.answer_batch.new.desk c.answer_batch.new.journal c.answer_batch.new.output in
     let n : ℕ = length c.entries-before.result.now in
     let h : History = c.entries.result.now in
     let first : n ≡ length old.desk.entries = ap (length {A = Entry Call Reply}) c.entries-before.ensures.entries in
@@ -73,8 +76,9 @@ returns-in-Ok-clause-settles g c =
       first,
       ap (length {A = Entry Call Reply}) c.entries.ensures.entries,
     ) in
-    let told = λ (es : History). HandsOverAll es (g.T.RunTaker.told c.args.taker.now) (g.T.RunTaker.told c.hand_over.new.taker) in
+    let handed = handed_of g.T.RunTaker.told g.T.RunTaker.given in
+    let told = λ (es : History). HandsOverAll es (handed c.args.taker.now) (handed c.hand_over.new.taker) in
     let rest : told (drop n h) = subst told (rest-of h n within) c.hand_over.ensures in
     let here : told (drop n new.desk.entries) = subst (λ (es : History). told (drop n es)) c.entries.ensures.entries rest in
-    settles-runs (told_lines c.args.batch.now) old new (g.T.RunTaker.told c.args.taker.now) (g.T.RunTaker.told c.hand_over.new.taker) c.in-Ok.ensures.settled
+    settles-runs (told_lines c.args.batch.now) old new (handed c.args.taker.now) (handed c.hand_over.new.taker) c.in-Ok.ensures.settled
     (subst (λ (k : ℕ). told (drop k new.desk.entries)) first here)

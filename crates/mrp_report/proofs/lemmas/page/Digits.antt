@@ -1,5 +1,5 @@
 -- The digits of numbers from a thousand on.
-use Rattle.std.proofs.Common.{◌≡◌, ℕ, ◌+◌, ◌/◌, ◌%◌, ◌^◌, ◌<◌, ◌≤◌, ◌++◌, arith, append_assoc}
+use Rattle.std.proofs.Common.{◌≡◌, ℕ, ◌/◌, ◌%◌, ◌^◌, ◌<◌, ◌≤◌, ◌++◌, arith, append_assoc}
 use Rattle.std.proofs.lemmas.Fmt.{decimal_step}
 use Rattle.std.specs.Fmt.{decimal}
 use Rattle.mrp_report.specs.page.Groups.{group}

@@ -8,4 +8,4 @@ empty : IsFound [] (settled [])
 empty = record { bytes_are = refl; durable = record { behind = []; is = refl } }
 
 pub begin-requires : goal.begin-requires
-begin-requires c = subst (λ (held : Held). IsFound [] held) (sym c.requires) empty
+begin-requires g c = subst (λ (held : Held). IsFound [] held) (sym c.requires) empty
