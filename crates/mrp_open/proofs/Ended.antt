@@ -19,6 +19,14 @@ pub why-since : {W : Type 0} (first before opened : Opening) (failures count : �
 why-since first before opened failures count written same is (inl risen) = inl (subst (λ (n : ℕ). HasRisenBy 1 n opened.failures) same risen)
 why-since first before opened failures count written same is (inr failed) = inr (subst (λ (n : ℕ). FailsToAnswer n written) is failed)
 
+-- and how
+ends-since : {W : Type 0} (first before opened : Opening) (output written : Told W) (end : Ending) → before.failures ≡ first.failures → FailsToServe before opened output written end → FailsToServe first opened output written end
+ends-since first before opened output written end same s = record {
+  fails = λ is. why-since first before opened (failures_of output) (failures_of output) written same refl (s.fails is);
+  clear = λ other. s.clear other ∙ same;
+  answering = λ failed. s.answering failed ∙ same;
+}
+
 module _ {R W E : Type 0} (before opened : Opening) (known : Known) (folder : List ℕ) (remaining : R → Option (List ℕ)) (contents : W → Option (List ℕ)) (heard : E → Option (List ℕ)) (input read : Told R) (output written : Told W) (errors told : Told E) where
   -- a desk that was opened has answered lines
   pub is-served : (found : Found) (tables : Tables) (r : Result Ending Ending) → opened.is_held ≡ true → OnOk r (opened.is_lasting ≡ true) → IsPrepared known folder found tables
@@ -39,7 +47,7 @@ module _ {R W E : Type 0} (before opened : Opening) (known : Known) (folder : Li
     tables = served.tables;
     prepared = served.prepared;
     serves = served.serves;
-    fails = λ is. why-since first before opened (failures_of output) (failures_of output) written same refl (served.fails is);
+    fails = ends-since first before opened output written end same served.fails;
   }
 
 -- a journal that was not opened before a folder was locked

@@ -1,5 +1,7 @@
 pub mod Ended
 pub mod Failing
+pub mod FirstLine
+pub mod Flushed
 pub mod Folders
 pub mod Making
 pub mod OpenFolders

@@ -1,5 +1,5 @@
 -- Batches are settled one after the other.
-use Rattle.std.proofs.Common.{◌≡◌, ◌≢◌, ◌∙◌, ◌⊎◌, ◌<◌, ◌≤◌, ℕ, Bool, true, false, List, [], ◌∷◌, ◌++◌, Option, Some, None, inl, inr, ap, append_assoc, arith, drop, length, length-append, map, refl, subst, sym}
+use Rattle.std.proofs.Common.{◌≡◌, ◌≢◌, ◌∙◌, ◌⊎◌, ◌<◌, ◌≤◌, ℕ, Bool, true, false, List, [], ◌∷◌, ◌++◌, Option, Some, None, inl, inr, ap, ap₂, append_assoc, arith, drop, length, length-append, map, refl, subst, sym}
 use Rattle.std.proofs.Math.Seq.{drop-append_seam}
 use Rattle.std.proofs.lemmas.List.{append-nil}
 use Rattle.std.specs.Prelude.{IfSome, option_map}
@@ -32,7 +32,7 @@ use Rattle.mrp_commands.specs.declared.ending.Ending.TheVariants as ending
 use Rattle.mrp_words.specs.Folder.{Known}
 use Rattle.mrp_open.specs.Runs.{Handed, HandsOver, HandsOverAll}
 use Rattle.mrp_open.proofs.Failing.{read-fault}
-use Rattle.mrp_open.specs.Served.{Advances, BringsLines, Fails, FailsToRead, FailsToSettle, HandsMore, IsServingEnd, MakesUp, Serves, Settles, SettlesRuns, Source, Stand, Stops, StopsAt}
+use Rattle.mrp_open.specs.Served.{Advances, BringsLines, Fails, FailsToRead, FailsToSettle, Flushes, HandsMore, IsServingEnd, MakesUp, Serves, Settles, SettlesRuns, Source, Stand, Stops, StopsAt}
 
 -- What lines do to a desk.
 
@@ -118,7 +118,25 @@ kept-both (Some h) b c r s p q = q ∙ ap (option_map (with_more s)) p ∙ ap (�
 -- no line is settled yet
 settles-none : (old : Stand) → IfSome old.journal IsSettled → Settles [] old old
 settles-none old is =
-    record { answers = []; records = []; answered = (refl, refl, refl); kept = kept-none old.journal is; told = appends-none old.output; sound = refl; clear = refl }
+    record { answers = []; records = []; answered = (refl, refl, refl); kept = kept-none old.journal is; told = appends-none old.output; flushed = inl (refl, refl); sound = refl; clear = refl }
+
+-- what is flushed last is flushed
+flushed-last : (old mid new : Stand) (a b : List ℕ) → Appends old.output mid.output a → Flushes mid new b → Flushes old new (a ++ b)
+flushed-last old mid new a b p q =
+    record { written = q.written; calls = q.calls; appends = appends-both old.output mid.output q.written a b p q.appends; keeps = q.keeps; called = q.called }
+
+-- no line has an answer
+no-answers : (lines : List (List ℕ)) (old new : Desk) (answers records : List ℕ) → lines ≡ [] → Answers lines old answers records new → answers ≡ []
+no-answers [] old new answers records none answered = answered.0
+no-answers (line ∷ lines) old new answers records none answered = absurd cc
+
+flushed-both : (one two : List (List ℕ)) (old mid new : Stand) (a b : List ℕ) → Appends old.output mid.output a → (two ≡ [] → b ≡ []) → ((one ≡ []) × (mid ≡ old)) ⊎ Flushes old mid a → ((two ≡ []) × (new ≡ mid)) ⊎ Flushes mid new b
+    → ((one ++ two ≡ []) × (new ≡ old)) ⊎ Flushes old new (a ++ b)
+flushed-both one two old mid new a b told silent p (inr q) = inr (flushed-last old mid new a b told q)
+flushed-both one two old mid new a b told silent (inl (first, same)) (inl (second, kept)) = inl (ap₂ (λ (x y : List (List ℕ)). x ++ y) first second, kept ∙ same)
+flushed-both one two old mid new a b told silent (inr p) (inl (second, kept)) =
+    let all : a ≡ a ++ b = sym (append-nil a) ∙ ap (λ (x : List ℕ). a ++ x) (sym (silent second)) in
+    inr (subst (λ (x : List ℕ). Flushes old new x) all (subst (λ (s : Stand). Flushes old s a) (sym kept) p))
 
 -- lines are settled, and then more
 settles-both : (one two : List (List ℕ)) (old mid new : Stand) → Settles one old mid → Settles two mid new → Settles (one ++ two) old new
@@ -128,6 +146,7 @@ settles-both one two old mid new p q = record {
   answered = answers-both one two old.desk mid.desk new.desk p.answers q.answers p.records q.records p.answered q.answered;
   kept = kept-both old.journal mid.journal new.journal p.records q.records p.kept q.kept;
   told = appends-both old.output mid.output new.output p.answers q.answers p.told q.told;
+  flushed = flushed-both one two old mid new p.answers q.answers p.told (λ none. no-answers two mid.desk new.desk q.answers q.records none q.answered) p.flushed q.flushed;
   sound = q.sound ∙ p.sound;
   clear = q.clear ∙ p.clear;
 }

@@ -1,7 +1,7 @@
 -- How an order desk on a folder ends (profile).
 use Rattle.std.specs.Prelude.{ℕ, ◌≡◌, ◌⊎◌, true, IsTrue, List, Option, None, length, option_map, string_bytes}
 use Rattle.mrp_rows.specs.declared.told.Told.{Told}
-use Rattle.mrp_rows.specs.Told.{failures_of, inner_of, interrupted_of}
+use Rattle.mrp_rows.specs.Told.{calls_of, failures_of, inner_of, interrupted_of}
 use Rattle.mrp_rows.specs.declared.streams.TheConstants.{WRITE_TRIES}
 use Rattle.mrp_tables.specs.Tables.{Tables}
 use Rattle.mrp_report.specs.Taken.{HasTakenAll}
@@ -31,6 +31,7 @@ on_disk contents desk failures output = record {
   journal = None;
   journal_failures = failures;
   output = contents (inner_of output);
+  output_calls = calls_of output;
   output_failures = failures_of output;
   output_interrupted = interrupted_of output;
 }

@@ -14,6 +14,7 @@ use Rattle.mrp_runs.specs.Maker.{KeepsFile, MayKeepFile}
 use Rattle.mrp_runs.specs.Notes.{note_of, note_text}
 use Rattle.mrp_runs.specs.declared.fault.MakeFault.{MakeFault}
 use Rattle.mrp_runs.specs.declared.refusal.Refusal.{Refusal}
+use Rattle.mrp_runs.specs.declared.refusal.Refusal.TheVariants as refusal
 use Rattle.mrp_runs.specs.declared.run.Run.{Run}
 use Rattle.mrp_runs.specs.declared.telling.Note.{Note}
 use Rattle.mrp_runs.specs.declared.telling.Note.TheVariants as note
@@ -28,6 +29,10 @@ GivesNext (Some runs) (Some run) left = (rest : List Run) × (runs ≡ run ∷ r
 abbrev pub TellsNote : {N : Type 0} → (N → Option (List ℕ)) → Run → Option Note → Told N → Told N → Type 0
 TellsNote contents run None old new = new ≡ old
 TellsNote contents run (Some said) old new = HasTakenAll contents old new (note_text run.snapshot.front said) ⊎ HasGivenUp old new WRITE_TRIES
+
+-- it is told of a run that there was no memory for it, unless the stream gives up
+abbrev pub TellsMissed : {N : Type 0} → (N → Option (List ℕ)) → ℕ → Told N → Told N → Type 0
+TellsMissed contents front old new = HasTakenAll contents old new (note_text front (note.Refused refusal.NoMemory)) ⊎ HasGivenUp old new WRITE_TRIES
 
 -- a run has its file, and if that has no report, it is told why
 abbrev pub GetsFile : {N : Type 0} → (N → Option (List ℕ)) → Tables → Run → Option (List Named) → Option (List Named) → Told N → Told N → Type 0

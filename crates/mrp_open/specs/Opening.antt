@@ -1,5 +1,5 @@
 -- What the calls of the folder that an order desk is opened on, and of its journal, have come to (profile).
-use Rattle.std.specs.Prelude.{ℕ, ◌≡◌, ◌≤◌, ◌⊎◌, Bool, true, false, Option}
+use Rattle.std.specs.Prelude.{ℕ, ◌≡◌, ◌≢◌, ◌≤◌, ◌⊎◌, Bool, true, false, Option}
 use Rattle.mrp_rows.specs.Told.{HasRisenBy, counted, failures_of, interrupted_of}
 use Rattle.mrp_rows.specs.declared.streams.TheConstants.{WRITE_TRIES}
 use Rattle.mrp_rows.specs.declared.told.Told.{Told}
@@ -71,9 +71,11 @@ abbrev pub FailsToAnswer : {W : Type 0} → ℕ → Told W → Type 0
 FailsToAnswer failures written = HasRisenBy 1 failures (failures_of written) ⊎ (WRITE_TRIES ≤ interrupted_of written)
 
 -- where a desk that was open ends by a failed write, a call of its journal has failed, or one of its output, or that was
--- interrupted too often
-abbrev pub FailsToServe : {W : Type 0} → Opening → Opening → Told W → Told W → Ending → Type 0
-FailsToServe old new output written end = end ≡ ending.Write → FailsToWrite old new ⊎ FailsToAnswer (failures_of output) written
+-- interrupted too often; where it ends otherwise, or its output has failed, no other call has
+pub record FailsToServe {W : Type 0} (old new : Opening) (output written : Told W) (end : Ending) : Type 0 where
+  pub fails : end ≡ ending.Write → FailsToWrite old new ⊎ FailsToAnswer (failures_of output) written
+  pub clear : end ≢ ending.Write → new.failures ≡ old.failures
+  pub answering : FailsToAnswer (failures_of output) written → new.failures ≡ old.failures
 
 -- where it ends otherwise than by a failed write, no journal was opened
 abbrev pub IsUntouched : Opening → Opening → Ending → Type 0

@@ -30,12 +30,13 @@ abbrev pub source_of : {R : Type 0} → (R → Option (List ℕ)) → Told R →
 source_of remaining input = record { left = remaining (inner_of input); calls = calls_of input; interrupted = interrupted_of input; failures = failures_of input }
 
 -- a desk with its journal and its output, as far as these are known; and how many calls of the journal failed, and of the
--- output failed and were interrupted
+-- output were made, failed and were interrupted
 pub record Stand : Type 0 where
   pub desk : Desk
   pub journal : Option Held
   pub journal_failures : ℕ
   pub output : Option (List ℕ)
+  pub output_calls : ℕ
   pub output_failures : ℕ
   pub output_interrupted : ℕ
 
@@ -46,6 +47,7 @@ stand_of held failures contents desk journal output = record {
   journal = held journal;
   journal_failures = failures journal;
   output = contents (inner_of output);
+  output_calls = calls_of output;
   output_failures = failures_of output;
   output_interrupted = interrupted_of output;
 }
@@ -55,13 +57,23 @@ abbrev pub sealed_stand : {S D W : Type 0} → (S → Option Held) → (S → �
 sealed_stand {S} {D} held failures contents desk journal output =
     stand_of (λ (j : SealedJournal S D). held (journal_of j)) (λ (j : SealedJournal S D). failures_of_sealed j + failures (journal_of j)) contents desk journal output
 
--- lines were answered: their records are durable behind the journal, and then their answers were written; no call failed
+-- a text was written to an output, which then was called once more and kept what was written, as a flush does
+pub record Flushes (old new : Stand) (text : List ℕ) : Type 0 where
+  pub written : Option (List ℕ)
+  pub calls : ℕ
+  pub appends : Appends old.output written text
+  pub keeps : Keeps written new.output
+  pub called : HasRisenBy 1 calls new.output_calls
+
+-- lines were answered: their records are durable behind the journal, and then their answers were written and, if there are
+-- any, flushed; no call failed
 pub record Settles (lines : List (List ℕ)) (old new : Stand) : Type 0 where
   pub answers : List ℕ
   pub records : List ℕ
   pub answered : Answers lines old.desk answers records new.desk
   pub kept : new.journal ≡ option_map (with_more records) old.journal
   pub told : Appends old.output new.output answers
+  pub flushed : ((lines ≡ []) × (new ≡ old)) ⊎ Flushes old new answers
   pub sound : new.journal_failures ≡ old.journal_failures
   pub clear : new.output_failures ≡ old.output_failures
 

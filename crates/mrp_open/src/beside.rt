@@ -1,6 +1,6 @@
 //! An order desk, from its start to its end, with a thread that makes the files of its runs.
 
-ghost use Rattle.std.specs.Prelude.{◌≡◌, ◌<◌, ◌↔◌, ◌⊎◌, ℕ, true, IfErr, IfOk, IfSome, IsTrue, OnErr, OnOk, codes};
+ghost use Rattle.std.specs.Prelude.{◌≡◌, ◌≢◌, ◌<◌, ◌↔◌, ◌⊎◌, ℕ, true, IfErr, IfOk, IfSome, IsTrue, OnErr, OnOk, codes};
 ghost use Rattle.std.specs.Int.{IsInRange};
 ghost use Rattle.std.specs.List.{All};
 ghost use Rattle.std.specs.Path.{path_join};
@@ -286,7 +286,7 @@ fn has_failed<W>(output: &Told<W>, failures: u64) -> bool
         || output.interrupted() >= u64::from(WRITE_TRIES)
 }
 
-// Counts in a folder that a call of its journal has failed, where a desk has ended by that.
+// Counts in a folder that a call of its journal has failed, where a desk has ended by that and by no failed output.
 fn count_end<S: Store, R, W>(
     place: &mut DeskFolder<'_, R>,
     _journal: &S,
@@ -297,6 +297,8 @@ fn count_end<S: Store, R, W>(
     requires { end.now ≡ ending.Write → (0 < S.failures _journal.now) ⊎ FailsToAnswer failures output.now }
     ensures same { (failed : ℕ) × (opening_of place.new ≡ with_failures failed (opening_of place.old)) }
     ensures fails { end.now ≡ ending.Write → FailsToWrite (opening_of place.old) (opening_of place.new) ⊎ FailsToAnswer failures output.now }
+    ensures clear { end.now ≢ ending.Write → opening_of place.new ≡ opening_of place.old }
+    ensures answering { FailsToAnswer failures output.now → opening_of place.new ≡ opening_of place.old }
 {
     if matches!(end, Ending::Write) && !has_failed(output, failures) {
         place.fail();
@@ -346,7 +348,7 @@ where
     };
     let folder = place.path();
     let mut begun = begin_desk(files, rt, alloc, folder, place, prepared, workers)?;
-    let mut taker = RunSender::new(rt, to);
+    let mut taker = RunSender::new(rt, to, WholeLines::new(Notes { rt }));
     let mut source = RunReceiver::new(rt, from);
     let mut notes = Told::new(WholeLines::new(Notes { rt }));
     let failures = output.failures();

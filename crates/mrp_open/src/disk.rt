@@ -6,7 +6,7 @@ ghost use Rattle.std.specs.Path.{path_buf_bytes, path_join};
 ghost use Rattle.mrp_rows.specs.declared.fault.Table.TheVariants as t;
 ghost use Rattle.mrp_words.specs.Folder.{IsThere, path_in};
 ghost use Rattle.mrp_open.specs.Disk.{has_handle, is_taken, path_to_open};
-ghost use Rattle.mrp_open.specs.Locks.{HasHandle, IsTaken};
+ghost use Rattle.mrp_open.specs.Locks.{HasHandle, IsLocked, IsTaken};
 
 use crate::place::JournalPlace;
 use mrp_commands::Ending;
@@ -88,19 +88,29 @@ fn handle_of<F>(outcome: io::Result<F>) -> Result<Option<F>, LockFault>
     }
 }
 
-// Takes the lock of a folder, without waiting, if there is such a folder.
+// Takes the lock of a folder, by what opening it came to, without waiting; there is none if there is no such folder.
 //
 // Errors: `InUse` if another process has the lock; `Read` if the folder can't be opened or locked.
-fn lock_folder(files: &impl Files<File = File>, folder: &str) -> Result<Lock<File>, LockFault>
-    ensures { IfOk result (λ lock. is_taken lock ≡ true) }
+fn lock_opened(outcome: io::Result<File>) -> Result<Lock<File>, LockFault>
+    ensures locked { IsLocked outcome result }
+    ensures taken { IfOk result (λ lock. is_taken lock ≡ true) }
 {
-    match handle_of(File::open(files, folder_path(folder)))? {
+    match handle_of(outcome)? {
         Some(handle) => {
             hold(&handle)?;
             Ok(Lock::Held(handle))
         }
         None => Ok(Lock::Absent),
     }
+}
+
+// Opens a folder, and takes its lock.
+//
+// Errors: as `lock_opened`.
+fn lock_folder(files: &impl Files<File = File>, folder: &str) -> Result<Lock<File>, LockFault>
+    ensures { IfOk result (λ lock. is_taken lock ≡ true) }
+{
+    lock_opened(File::open(files, folder_path(folder)))
 }
 
 // The path of a folder's journal.

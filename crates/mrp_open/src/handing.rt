@@ -1,19 +1,11 @@
 //! Runs that are handed to the thread that makes their files.
 
-ghost use Rattle.std.specs.Prelude.{◌≡◌, ◌⊎◌, List, Option, IfSome};
-ghost use Rattle.mrp_rows.specs.declared.streams.TheConstants.{WRITE_TRIES};
-ghost use Rattle.mrp_report.specs.Taken.{HasTakenAll};
-ghost use Rattle.mrp_report.specs.Written.{HasGivenUp};
-ghost use Rattle.mrp_runs.specs.Notes.{note_text};
-ghost use Rattle.mrp_runs.specs.declared.refusal.Refusal.TheVariants as refusal;
-ghost use Rattle.mrp_runs.specs.declared.telling.Note.TheVariants as note;
+ghost use Rattle.std.specs.Prelude.{◌≡◌, List, Option, IfSome};
 ghost use Rattle.mrp_runs.specs.File.{IsRun};
 ghost use Rattle.mrp_runs.specs.declared.run.Run.{Run};
-ghost use Rattle.mrp_open.specs.Made.{GivesNext, MakesAll, MakesRun};
+ghost use Rattle.mrp_open.specs.Made.{GivesNext, MakesAll, MakesRun, TellsMissed};
 
 use crate::batches::RunTaker;
-use crate::notes::Notes;
-use crate::whole_lines::WholeLines;
 use crossbeam_channel::{Receiver, Sender};
 use mrp_folder::Folder;
 use mrp_rows::Told;
@@ -44,27 +36,32 @@ pub struct Given<K: RunKind> {
     ghost is: { ∥ K.holds run ∥₁ },
 }
 
-/// Sends runs to the thread that makes their files.
+/// Sends runs to the thread that makes their files, and tells of those that can't be sent.
 #[derive(Drop)]
-pub struct RunSender<'a, K: RunKind, R> {
+pub struct RunSender<'a, K: RunKind, R, N> {
     rt: &'a R,
     to: Option<Sender<Given<K>>>,
+    notes: Told<N>,
 }
 
-impl<'a, K: RunKind, R> RunSender<'a, K, R> {
+impl<'a, K: RunKind, R, N> RunSender<'a, K, R, N> {
     ghost use Rattle.std.specs.Prelude.{◌≡◌, false, is_none};
 
-    /// A sender of runs, to which more may come.
-    pub fn new(rt: &'a R, to: Sender<Given<K>>) -> RunSender<'a, K, R>
+    /// A sender of runs, to which more may come, and what tells of them.
+    pub fn new(rt: &'a R, to: Sender<Given<K>>, notes: N) -> RunSender<'a, K, R, N>
         ensures { is_none result.to ≡ false }
     {
-        RunSender { rt, to: Some(to) }
+        RunSender {
+            rt,
+            to: Some(to),
+            notes: Told::new(notes),
+        }
     }
 }
 
 // Tells of a run that there is no memory for it.
 fn tell_missed<W: Write>(front: u64, notes: &mut Told<W>)
-    ensures { HasTakenAll W.contents notes.old notes.new (note_text front (note.Refused refusal.NoMemory)) ⊎ HasGivenUp notes.old notes.new WRITE_TRIES }
+    ensures { TellsMissed W.contents front notes.old notes.new }
 {
     let _ = tell_run(front, Note::Refused(Refusal::NoMemory), notes);
 }
@@ -79,8 +76,9 @@ fn to_hand<K: RunKind>(run: Run) -> Given<K>
     }
 }
 
-impl<'a, K: RunKind, R: Eprint + Wait> RunTaker for RunSender<'a, K, R> {
-    ghost use Rattle.std.specs.Prelude.{None, is_none};
+impl<'a, K: RunKind, R: Wait, N: Write> RunTaker for RunSender<'a, K, R, N> {
+    ghost use Rattle.std.specs.Prelude.{◌≡◌, ◌⊎◌, None, is_none, true};
+    ghost use Rattle.mrp_open.specs.Made.{TellsMissed};
 
     ghost takes = { K.holds };
 
@@ -90,7 +88,11 @@ impl<'a, K: RunKind, R: Eprint + Wait> RunTaker for RunSender<'a, K, R> {
 
     ghost closed = { λ sender. is_none sender.to };
 
-    fn take(&mut self, run: Run) {
+    fn take(&mut self, run: Run)
+        requires { K.holds run }
+        ensures noted { (self.new.notes ≡ self.old.notes) ⊎ TellsMissed N.contents run.snapshot.front self.old.notes self.new.notes }
+        ensures unsent { is_none self.old.to ≡ true → TellsMissed N.contents run.snapshot.front self.old.notes self.new.notes }
+    {
         let front = run.snapshot.front();
         let is_sent = match &self.to {
             Some(to) => to.send(self.rt, to_hand(run)).is_ok(),
@@ -101,9 +103,10 @@ impl<'a, K: RunKind, R: Eprint + Wait> RunTaker for RunSender<'a, K, R> {
         }
     }
 
-    fn miss(&mut self, front: u64) {
-        let mut notes = Told::new(WholeLines::new(Notes { rt: self.rt }));
-        tell_missed(front, &mut notes);
+    fn miss(&mut self, front: u64)
+        ensures { TellsMissed N.contents front self.old.notes self.new.notes }
+    {
+        tell_missed(front, &mut self.notes);
     }
 
     fn close(&mut self) {

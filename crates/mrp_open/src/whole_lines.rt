@@ -1,10 +1,11 @@
 //! A stream that gets a line in one write.
 
 ghost use Rattle.std.specs.Prelude.{◌≡◌, ◌≤◌, length};
-ghost use Rattle.mrp_open.specs.Lines.{is_whole};
+ghost use Rattle.mrp_open.specs.Lines.{is_whole, line_len};
 
 use arrayvec::ArrayVec;
 use memchr::memchr;
+use mrp_rows::Told;
 use std::io;
 use std::io::Write;
 
@@ -16,13 +17,14 @@ pub const MOST_KEPT: usize = 512;
 /// written in parts.
 #[derive(Drop)]
 pub struct WholeLines<E> {
-    inner: E,
+    inner: Told<E>,
     line: ArrayVec<u8, MOST_KEPT>,
 }
 
 // How many bytes there are up to the end of the first line.
 fn line_len(bytes: &[u8]) -> usize
-    ensures { result ≤ length bytes.now }
+    ensures within { result ≤ length bytes.now }
+    ensures end { result ≡ line_len bytes.now }
 {
     match memchr(b'\n', bytes) {
         Some(at) => at + 1,
@@ -40,7 +42,7 @@ fn is_whole(line: &[u8]) -> bool
 impl<E: Write> WholeLines<E> {
     ghost use Rattle.std.specs.Prelude.{◌≡◌, ◌≤◌, ◌++◌, [], OnOk, length, take};
     ghost use Rattle.std.specs.Io.KnownBytes.{Appends};
-    ghost use Rattle.mrp_open.specs.Lines.{kept_line, stream_of};
+    ghost use Rattle.mrp_open.specs.Lines.{kept_line, stream_of, taken_len};
 
     /// A stream of which nothing is kept yet.
     pub fn new(inner: E) -> WholeLines<E>
@@ -48,7 +50,7 @@ impl<E: Write> WholeLines<E> {
         ensures nothing { kept_line result ≡ [] }
     {
         WholeLines {
-            inner,
+            inner: Told::new(inner),
             line: ArrayVec::new(),
         }
     }
@@ -56,6 +58,7 @@ impl<E: Write> WholeLines<E> {
     // Keeps bytes up to the end of a line, as far as there is room. Returns how many.
     fn keep(&mut self, bytes: &[u8]) -> usize
         ensures within { result ≤ length bytes.now }
+        ensures count { result ≡ taken_len (kept_line self.old) bytes.now }
         ensures kept { kept_line self.new ≡ kept_line self.old ++ take result bytes.now }
         ensures same { stream_of self.new ≡ stream_of self.old }
     {
@@ -77,15 +80,18 @@ impl<E: Write> WholeLines<E> {
 }
 
 impl<E: Write> Write for WholeLines<E> {
-    ghost use Rattle.std.specs.Prelude.{◌≡◌, [], None, IfOk, OnOk, take};
+    ghost use Rattle.std.specs.Prelude.{◌≡◌, [], None, IfOk, OnErr, OnOk, take};
     ghost use Rattle.std.specs.Io.{WritesAtMost};
-    ghost use Rattle.std.specs.Io.KnownBytes.{Appends, Keeps, WriteAppends};
-    ghost use Rattle.mrp_open.specs.Lines.{TakesLines, kept_line, stream_of};
+    ghost use Rattle.std.specs.Io.KnownBytes.{Keeps, WriteAppends};
+    ghost use Rattle.mrp_journal.specs.Journal.{WritesThrough};
+    ghost use Rattle.mrp_open.specs.Lines.{TakesLines, kept_line, stream_of, taken_len, told_stream};
 
     fn write(&mut self, buf: &[u8]) -> io::Result<usize>
         ensures bound { WritesAtMost result buf.now }
         ensures bytes { WriteAppends None None result buf.now }
+        ensures count { IfOk result (λ n. n ≡ taken_len (kept_line self.old) buf.now) }
         ensures lines { IfOk result (λ n. TakesLines E.contents self.old self.new (take n buf.now)) }
+        ensures given_up { OnErr result (kept_line self.new ≡ []) }
     {
         let count = self.keep(buf);
         if is_whole(self.line.as_slice()) {
@@ -94,9 +100,11 @@ impl<E: Write> Write for WholeLines<E> {
         Ok(count)
     }
 
+    #[tactic(auto, using(crate::proofs::Flushed::flushed))]
     fn flush(&mut self) -> io::Result<()>
         ensures bytes { Keeps None None }
-        ensures written { OnOk result (Appends (E.contents (stream_of self.old)) (E.contents (stream_of self.new)) (kept_line self.old)) }
+        ensures written { OnOk result (WritesThrough E.contents (told_stream self.old) (told_stream self.new) (kept_line self.old)) }
+        ensures nothing { kept_line self.new ≡ [] }
     {
         self.write_kept()?;
         self.inner.flush()

@@ -1,4 +1,4 @@
-use Rattle.std.proofs.Common.{◌∙◌, ◌⊎◌, ◌<◌, ℕ, ◌+◌, List, Option, ap, subst, sym}
+use Rattle.std.proofs.Common.{◌≡◌, ◌∙◌, ◌⊎◌, ◌<◌, ℕ, ◌+◌, List, Option, ap, subst, sym}
 use Rattle.std.specs.declared.fs.File.{File}
 use Rattle.mrp_tables.specs.Tables.{Tables}
 use Rattle.mrp_journal.specs.File.{failures_told}
@@ -65,9 +65,16 @@ count_end-requires g c is =
     subst (λ (n : ℕ). (0 < failures_in journal) ⊎ FailsToAnswer n written) (sym c.failures-failures.ensures) why
 
 pub returns-clause-fails : goal.returns-clause-fails
-returns-clause-fails g c is =
-    why-since (opening_of c.args.place.now) (opening_of c.begin_desk.new.place) (opening_of c.count_end.new.place) c.failures-failures.result (failures_of c.args.output.now) c.serve_begun-end.new.output
-    (ap (λ (o : Opening). o.failures) c.in_ok-begun.ensures.lasts) c.failures-failures.ensures (c.count_end.ensures.fails is)
+returns-clause-fails g c =
+    let begun = ap (λ (o : Opening). o.failures) c.in_ok-begun.ensures.lasts in
+    let written = c.serve_begun-end.new.output in
+    let before : c.failures-failures.result ≡ failures_of c.args.output.now = c.failures-failures.ensures in
+    record {
+      fails = λ is. why-since (opening_of c.args.place.now) (opening_of c.begin_desk.new.place) (opening_of c.count_end.new.place) c.failures-failures.result (failures_of c.args.output.now) written
+          begun before (c.count_end.ensures.fails is);
+      clear = λ other. ap (λ (o : Opening). o.failures) (c.count_end.ensures.clear other) ∙ begun;
+      answering = λ failed. ap (λ (o : Opening). o.failures) (c.count_end.ensures.answering (subst (λ (n : ℕ). FailsToAnswer n written) (sym before) failed)) ∙ begun;
+    }
 
 pub returns-clause-lasts : goal.returns-clause-lasts
 returns-clause-lasts g c = ap (λ (o : Opening). o.is_lasting) c.count_end.ensures.same.1 ∙ ap (λ (o : Opening). o.is_lasting) c.in_ok-begun.ensures.lasts
