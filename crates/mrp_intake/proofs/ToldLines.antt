@@ -9,7 +9,7 @@ use Rattle.memchr.specs.Find.{IsLastByte, NoneAfter, NoneBefore, Nowhere, Passes
 use Rattle.std.specs.Prelude.{⊤}
 use Rattle.std.specs.Io.KnownBytes.{Consumes, IsAtEnd, Keeps}
 use Rattle.std.proofs.KnownBytes.{Consumes-kept, Consumes-nil, Consumes-trans}
-use Rattle.mrp_intake.specs.Intake.{BringsKnown, IsEnded, IsInLine, ReadsOn, Taken}
+use Rattle.mrp_intake.specs.Intake.{BringsKnown, IsEnded, IsInLine, IsLineLeft, ReadsOn, Taken}
 use Rattle.mrp_intake.specs.Lines.{lines_of, told_lines, told_of}
 
 -- a byte that ends no line goes onto the first line
@@ -257,3 +257,33 @@ ended-some xs ended = by ended.front ended.is
     by : (front : List ℕ) → xs ≡ front ++ 10 ∷ [] → xs ≢ []
     by [] is = λ none. let e : 10 ∷ [] ≡ [] = sym is ∙ none in cc
     by (x ∷ front) is = λ none. let e : x ∷ (front ++ 10 ∷ []) ≡ [] = sym is ∙ none in cc
+
+-- a text that is not empty has a line
+pub told-some : (xs : List ℕ) → xs ≢ [] → told_lines xs ≢ []
+told-some [] some = absurd (some refl)
+told-some (x ∷ xs) some = by (x == 10) refl
+  where
+    onto : (ls : List (List ℕ)) → told_lines (x ∷ xs) ≡ map told_of (onto_first x ls) → told_lines (x ∷ xs) ≢ []
+    onto [] is = λ none. let e : told_of (x ∷ []) ∷ [] ≡ [] = sym is ∙ none in cc
+    onto (l ∷ ls) is = λ none. let e : told_of (x ∷ l) ∷ map told_of ls ≡ [] = sym is ∙ none in cc
+
+    by : (b : Bool) → (x == 10) ≡ b → told_lines (x ∷ xs) ≢ []
+    by true e = λ none. let is : told_of (x ∷ []) ∷ told_lines xs ≡ [] = sym (ap (map told_of) (lines-end x xs e)) ∙ none in cc
+    by false e = onto (lines_of xs) (ap (map told_of) (lines-on x xs e))
+
+pub front-some : (front behind : List ℕ) → front ≢ [] → front ++ behind ≢ []
+front-some [] behind some = absurd (some refl)
+front-some (x ∷ front) behind some = λ none. let e : x ∷ (front ++ behind) ≡ [] = none in cc
+
+pub behind-some : (front behind : List ℕ) → behind ≢ [] → front ++ behind ≢ []
+behind-some [] behind some = some
+behind-some (x ∷ front) behind some = λ none. let e : x ∷ (front ++ behind) ≡ [] = none in cc
+
+-- of a line that is to come some was read
+pub line-left : (begun more given : List ℕ) (first now next : Option (List ℕ)) → ToCome begun first more now → Consumes now next given → more ++ given ≢ [] → IsLineLeft begun first
+line-left begun more given None now next t k some = tt
+line-left begun more given (Some xs) None next t k some = absurd t
+line-left begun more given (Some xs) (Some ys) None t k some = absurd k
+line-left begun more given (Some xs) (Some ys) (Some zs) t k some = λ none.
+    let is : told_lines (begun ++ xs) ≡ told_lines ((more ++ given) ++ zs) = t ∙ ap (λ l. told_lines (more ++ l)) k ∙ ap told_lines (sym (append_assoc more given zs)) in
+    told-some ((more ++ given) ++ zs) (front-some (more ++ given) zs some) (sym is ∙ none)

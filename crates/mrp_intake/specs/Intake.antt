@@ -1,5 +1,5 @@
 -- What an intake holds, and what a batch is (profile).
-use Rattle.std.specs.Prelude.{ℕ, ◌≡◌, ◌≢◌, ◌≤◌, ◌+◌, ◌⊎◌, ◌==◌, false, List, [], ◌∷◌, ◌++◌, length, Option, Some, None, ⊤}
+use Rattle.std.specs.Prelude.{ℕ, ◌≡◌, ◌≢◌, ◌≤◌, ◌+◌, ◌⊎◌, ◌==◌, false, List, [], ◌∷◌, ◌++◌, length, Option, Some, None, IfSome, ⊤}
 use Rattle.std.specs.List.{All, concat, list_any}
 use Rattle.std.specs.Io.KnownBytes.{Consumes, IsAtEnd}
 use Rattle.mrp_rows.specs.declared.told.Told.{Told}
@@ -30,6 +30,10 @@ abbrev pub BringsKnown : Taken → Taken → Option (List ℕ) → Option (List 
 BringsKnown old new None after = ⊤
 BringsKnown old new (Some before) None = ⊥
 BringsKnown old new (Some before) (Some after) = Brings old new before after
+
+-- a line is still to come, as far as it is known what a reader has left
+abbrev pub IsLineLeft : List ℕ → Option (List ℕ) → Type 0
+IsLineLeft begun left = IfSome left (λ text. told_lines (begun ++ text) ≢ [])
 
 -- a batch has whole lines, or it is what stands behind the last line feed of the input
 abbrev pub IsBatch : Taken → Option (List ℕ) → Type 0

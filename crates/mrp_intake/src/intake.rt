@@ -27,11 +27,11 @@ impl Model for Intake {
 }
 
 impl Intake {
-    ghost use Rattle.std.specs.Prelude.{◌≡◌, ◌≢◌, ◌≤◌, ◌⊎◌, [], OnOk, false, true};
+    ghost use Rattle.std.specs.Prelude.{◌≡◌, ◌≢◌, ◌≤◌, ◌⊎◌, [], OnErr, OnOk, false, true};
     ghost use Rattle.std.specs.Io.KnownBytes.{IsAtEnd};
     ghost use Rattle.mrp_rows.specs.declared.streams.TheConstants.{READ_CALLS};
     ghost use Rattle.mrp_rows.specs.Told.{HasRisenBy, calls_of, failures_of, greatest_count, inner_of, interrupted_of};
-    ghost use Rattle.mrp_intake.specs.Intake.{BringsKnown, IsBatch, IsOneRead, StopsReading};
+    ghost use Rattle.mrp_intake.specs.Intake.{BringsKnown, IsBatch, IsLineLeft, IsOneRead, StopsReading};
 
     /// An intake of which nothing was read yet.
     pub fn new(alloc: Global) -> Intake
@@ -57,16 +57,20 @@ impl Intake {
         ensures last { OnOk result (self.new ≡ record { batch = self.old.begun; begun = [] }) }
         ensures none { result ≡ Ok false → self.new.batch ≡ [] }
         ensures some { result ≡ Ok true → self.new.batch ≢ [] }
+        ensures left { OnErr result (self.old.begun ≢ []) }
     {
+        if self.begun.is_empty() {
+            return Ok(false);
+        }
         self.batch.append(&mut self.begun)?;
-        Ok(!self.batch.is_empty())
+        Ok(true)
     }
 
     /// Reads until lines are complete, which become the batch: no read follows one that completed a line. False at the end
     /// of the input.
     ///
     /// Errors: `Read` if the reader failed, or gave no whole line in 100,000,000 calls of `read`; `NoMemory` if an
-    /// allocation failed. Then lines that were read may be lost.
+    /// allocation failed, for a line that was to come. Then lines that were read may be lost.
     pub fn next_batch<R: Read>(&mut self, reader: &mut Told<R>) -> Result<bool, ReadFault>
         ensures brings { OnOk result (BringsKnown self.old self.new (R.remaining (inner_of reader.old)) (R.remaining (inner_of reader.new))) }
         ensures whole { result ≡ Ok true → IsBatch self.new (R.remaining (inner_of reader.new)) }
@@ -76,6 +80,7 @@ impl Intake {
         ensures end { result ≡ Ok false → (self.new.batch ≡ []) × (self.new.begun ≡ []) × IsAtEnd (R.remaining (inner_of reader.new)) }
         ensures failures { OnOk result (failures_of reader.new ≡ failures_of reader.old) }
         ensures memory { result ≡ Err ReadFault.NoMemory → failures_of reader.new ≡ failures_of reader.old }
+        ensures left { result ≡ Err ReadFault.NoMemory → IsLineLeft self.old.begun (R.remaining (inner_of reader.old)) }
         ensures refused { result ≡ Err ReadFault.Read → HasRisenBy 1 (failures_of reader.old) (failures_of reader.new)
             ⊎ (greatest_count ≤ interrupted_of reader.new)
             ⊎ HasRisenBy READ_CALLS (calls_of reader.old) (calls_of reader.new) }

@@ -6,7 +6,7 @@ use Rattle.mrp_rows.specs.Told.{HasRisenBy, inner_of}
 use Rattle.mrp_intake.specs.Intake.{BringsKnown, Gives, ReadsOn, Taken, retries_of}
 use Rattle.mrp_intake.specs.Lines.{told_lines}
 use Rattle.mrp_intake.proofs.Calls.{gives-again, gives-last, gives-none, gives-part}
-use Rattle.mrp_intake.proofs.ToldLines.{ToCome, ended-some, reads-kept, reads-more, to-come-brings, to-come-end, to-come-kept, to-come-on}
+use Rattle.mrp_intake.proofs.ToldLines.{ToCome, behind-some, ended-some, front-some as some-front, line-left, reads-kept, reads-more, to-come-brings, to-come-end, to-come-kept, to-come-on}
 use Rattle.mrp_intake.proofs.intake.Intake.next_batch.Goals as goal
 use Rattle.mrp_intake.proofs.intake.Intake.next_batch.Goals.{in-Some+in_ok-take_piece-in-Some+else-branch, in-None}
 
@@ -124,3 +124,21 @@ returns-then-branch-clause-some g c e =
     let done = c.if-branch.true in
     let was = c.in_ok-take_piece-in-Some.was in
     ended-some c.take_piece.new.batch.items (c.in_ok-take_piece-in-Some.ensures.some (cc))
+
+pub returns-in_err-end-in-Some-eq0-clause-left : goal.returns-in_err-end-in-Some-eq0-clause-left
+returns-in_err-end-in-Some-eq0-clause-left g c memory =
+    let zero : c.in_ok-read_once.field-0 ≡ Some 0 = grind (arith, common_steps) in
+    line-left c.args.self.now.begun c.loop.self.begun [] (g.R.Read.remaining (inner_of c.args.reader.now)) (g.R.Read.remaining (inner_of c.loop.reader)) (g.R.Read.remaining (inner_of c.read_once.new.reader))
+    c.loop.invariant.brings (given-some _ _ c.read_once.new.piece c.in_ok-read_once.field-0 0 zero c.in_ok-read_once.ensures.given) (some-front c.loop.self.begun [] c.in_err-end-in-Some-eq0.ensures.left)
+
+pub returns-in_err-take_piece-in-Some-clause-left : goal.returns-in_err-take_piece-in-Some-clause-left
+returns-in_err-take_piece-in-Some-clause-left g c memory =
+    let now = g.R.Read.remaining (inner_of c.loop.reader) in
+    let next = g.R.Read.remaining (inner_of c.read_once.new.reader) in
+    let consumed : Consumes now next c.split_at.result.0.now =
+    subst (Consumes now next) (sym c.split_at.ensures.front) (given-some now next c.read_once.new.piece c.in_ok-read_once.field-0 c.in-Some.count c.in-Some.is c.in_ok-read_once.ensures.given) in
+    let tested = c.in-Some.count-test in
+    let some : c.in-Some.count ≢ 0 = grind (arith, common_steps) in
+    let given : c.split_at.result.0.now ≢ [] =
+    front-some c.in-Some.count c.read_once.new.piece c.split_at.result.0.now c.split_at.ensures.front some (given-within now next c.read_once.new.piece c.in_ok-read_once.field-0 c.in-Some.count c.in-Some.is c.in_ok-read_once.ensures.given) in
+    line-left c.args.self.now.begun c.loop.self.begun c.split_at.result.0.now (g.R.Read.remaining (inner_of c.args.reader.now)) now next c.loop.invariant.brings consumed (behind-some c.loop.self.begun c.split_at.result.0.now given)
