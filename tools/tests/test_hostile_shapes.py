@@ -58,6 +58,14 @@ class HostileShapes(unittest.TestCase):
             with open(os.path.join(room, "items.csv"), encoding="utf-8") as held:
                 self.assertEqual(held.read(), "item\n" + 10 * ",")
 
+    def test_memory_is_what_a_run_that_does_nothing_does_not_hold(self):
+        page = next(it for it in TOOL.shapes() if it.name == "page of commas")
+        for held, is_wrong in ((85, False), (177, False), (178, True)):
+            ran = TOOL.Ran(1, "wrong: shape", False, "", 0.0, held * TOOL.MB, 77 * TOOL.MB)
+            self.assertEqual(ran.beyond(), (held - 77) * TOOL.MB)
+            self.assertEqual(bool(list(TOOL.faults(page, 200 * TOOL.MB, ran))), is_wrong)
+        self.assertEqual(TOOL.Ran(0, "", False, "", 0.0, 1, 2).beyond(), 0)
+
     def test_a_line_is_found_across_pieces(self):
         for text, is_there in (("a\nline\nb", True), ("line\nb", True), ("a\nlines\nb", False), ("a\nline", False)):
             looking = TOOL.Looking("line")

@@ -13,6 +13,7 @@ use crate::finished::{out_of_places, plan_from, share};
 use crate::gate::Gate;
 use crate::serial::plan_in_turn;
 use crate::working::{Worker, work};
+use mrp_bill::Shop;
 use mrp_board::{Board, BoardCall, BoardReply, BoardState};
 use mrp_item::{Inputs, Plan};
 use mrp_qty::NoMemory;
@@ -181,9 +182,23 @@ fn plan_together<R: Threads + Wait + Sync, G: Gate + Sync>(
     plan_of(alloc, inputs, board)
 }
 
+// The fewest items for which it is asked whether several workers plan them sooner than one.
+const MANY: usize = 1_024;
+
+// How many items of many a low-level code must have on average.
+const WIDE: usize = 4;
+
+// Whether a shop has many items, and so few of them to a low-level code that workers would mostly wait for one
+// another.
+fn is_narrow(shop: &Shop) -> bool {
+    let items = shop.tables().items().len();
+    items >= MANY && items / shop.depth().max(1) < WIDE
+}
+
 /// The plan of these inputs: every item is planned, by so many workers (1 to 64, as the caller guarantees). One
-/// worker plans in turn; several do as in [`work_together`]. It is the plan that `explode_serial` gives. It
-/// passes the gate before it plans an item, once for each. It may wait.
+/// worker plans in turn, as for a shop of many items with few to a low-level code; several do as in
+/// [`work_together`]. It is the plan that `explode_serial` gives. It passes the gate before it plans an item, once
+/// for each. It may wait.
 ///
 /// Errors: `NoMemory` if an allocation fails; otherwise `TooLarge` with the first item in table
 /// order whose quantities get too large while those of no item above it do (profile).
@@ -197,7 +212,7 @@ pub fn explode<R: Threads + Wait + Sync, G: Gate + Sync>(
     requires { IsInRange 1 MOST_WORKERS workers }
     ensures { Explodes inputs.now.value result }
 {
-    if workers == 1 {
+    if workers == 1 || is_narrow(inputs.shop()) {
         plan_in_turn(alloc, inputs, |item: usize| gate.pass(rt, item))
     } else {
         plan_together(rt, alloc, inputs, workers, gate)

@@ -1,5 +1,5 @@
 -- What contracts see of a folder of the operating system: nothing of its files (profile).
-use Rattle.std.specs.Prelude.{ℕ, List}
+use Rattle.std.specs.Prelude.{ℕ, ◌≡◌, List}
 use Rattle.mrp_folder.specs.declared.disk.DiskFolder.{DiskFolder}
 use Rattle.mrp_folder.specs.declared.disk.DiskPart.{DiskPart}
 
@@ -18,3 +18,8 @@ path_of folder = folder.folder.now
 -- the name that a file is begun with
 abbrev pub part_of : {R : Type 0} → DiskFolder R → List ℕ
 part_of folder = folder.part.now
+
+-- its files go where they went before
+pub record KeepsPlace {R : Type 0} (old new : DiskFolder R) : Type 0 where
+  pub path : path_of new ≡ path_of old
+  pub part : part_of new ≡ part_of old

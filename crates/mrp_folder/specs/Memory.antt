@@ -1,5 +1,5 @@
 -- What contracts see of a folder in memory (profile).
-use Rattle.std.specs.Prelude.{ℕ, List, map, string_bytes, take, vec_capacity}
+use Rattle.std.specs.Prelude.{ℕ, ◌≡◌, List, map, string_bytes, take, vec_capacity}
 use Rattle.mrp_folder.specs.declared.memory.MemoryFile.{MemoryFile}
 use Rattle.mrp_folder.specs.declared.memory.MemoryFolder.{MemoryFolder}
 use Rattle.mrp_folder.specs.declared.memory.MemoryPart.{MemoryPart}
@@ -21,6 +21,10 @@ writes_left part = part.writes
 abbrev pub memory_durable : MemoryPart → List ℕ
 memory_durable part = take part.durable part.bytes.items
 
+-- how many bytes at its front are durable
+abbrev pub durable_len : MemoryPart → ℕ
+durable_len part = part.durable
+
 -- a file that has a name
 abbrev pub memory_file : MemoryFile → Named
 memory_file file = record { name = string_bytes file.name; file = record { bytes = file.part.bytes.items; durable = memory_durable file.part } }
@@ -33,6 +37,10 @@ memory_files folder = map memory_file folder.files.items
 abbrev pub memory_lasting : MemoryFolder → List Named
 memory_lasting folder = take folder.lasting (memory_files folder)
 
+-- how many names at the front are durable
+abbrev pub lasting_len : MemoryFolder → ℕ
+lasting_len folder = folder.lasting
+
 -- how many of its calls are left before they fail
 abbrev pub calls_left : MemoryFolder → ℕ
 calls_left folder = folder.calls
@@ -44,3 +52,8 @@ writes_given folder = folder.writes
 -- how many of its calls failed
 abbrev pub memory_failures : MemoryFolder → ℕ
 memory_failures folder = folder.failures
+
+-- no name has become durable, and files are begun as before
+pub record KeepsNames (old new : MemoryFolder) : Type 0 where
+  pub lasting : lasting_len new ≡ lasting_len old
+  pub writes : writes_given new ≡ writes_given old

@@ -2,7 +2,7 @@
 
 ghost use Rattle.std.specs.Prelude.{◌≡◌, IfOk, None};
 ghost use Rattle.std.specs.Path.{path_buf_bytes, path_join};
-ghost use Rattle.mrp_folder.specs.Disk.{failures_told, part_of, path_of};
+ghost use Rattle.mrp_folder.specs.Disk.{KeepsPlace, failures_told, part_of, path_of};
 ghost use Rattle.mrp_folder.specs.Named.{TellsFailure};
 
 use crate::folder::Folder;
@@ -89,7 +89,8 @@ impl<'a, R> DiskFolder<'a, R> {
 
     // Counts a call that failed.
     fn told<X>(&mut self, outcome: io::Result<X>) -> Result<X, WriteFault>
-        ensures { TellsFailure (failures_told self.old) (failures_told self.new) result }
+        ensures told { TellsFailure (failures_told self.old) (failures_told self.new) result }
+        ensures place { KeepsPlace self.old self.new }
     {
         match outcome {
             Ok(x) => Ok(x),

@@ -22,7 +22,7 @@ impl Write for MemoryPart {
     ghost use Rattle.std.specs.Prelude.{◌≡◌, ◌<◌, ◌-◌, ◌+◌, ◌⊎◌, IfOk, OnErr, OnOk, Some, length};
     ghost use Rattle.std.specs.Io.{WritesAtMost};
     ghost use Rattle.std.specs.Io.KnownBytes.{WriteAppends};
-    ghost use Rattle.mrp_folder.specs.Memory.{part_bytes, part_room, writes_left};
+    ghost use Rattle.mrp_folder.specs.Memory.{durable_len, part_bytes, part_room, writes_left};
 
     ghost contents = { λ part. Some (part_bytes part) };
 
@@ -30,6 +30,7 @@ impl Write for MemoryPart {
         ensures bound { WritesAtMost result buf.now }
         ensures bytes { WriteAppends (Some (part_bytes self.old)) (Some (part_bytes self.new)) result buf.now }
         ensures whole { IfOk result (λ count. count ≡ length buf.now) }
+        ensures undurable { durable_len self.new ≡ durable_len self.old }
         ensures fewer { writes_left self.new ≡ writes_left self.old - 1 }
         ensures taken { OnOk result (0 < writes_left self.old) }
 
@@ -44,7 +45,9 @@ impl Write for MemoryPart {
         Ok(buf.len())
     }
 
-    fn flush(&mut self) -> io::Result<()> {
+    fn flush(&mut self) -> io::Result<()>
+        ensures { self.new ≡ self.old }
+    {
         Ok(())
     }
 }
@@ -105,11 +108,12 @@ fn push_file(
 impl MemoryFolder {
     ghost use Rattle.std.specs.Prelude.{◌≡◌, ◌<◌, ◌↔◌, ◌-◌, [], IsErr, IsTrue, Some, map};
     ghost use Rattle.mrp_rows.specs.Told.{counted};
-    ghost use Rattle.mrp_folder.specs.Memory.{calls_left, memory_failures, memory_files, writes_given};
+    ghost use Rattle.mrp_folder.specs.Memory.{KeepsNames, calls_left, lasting_len, memory_failures, memory_files, writes_given};
 
     /// A folder without files, whose calls fail after so many, and the writes of each of its files after so many.
     pub fn new(alloc: Global, calls: u64, writes: u64) -> MemoryFolder
         ensures files { memory_files result ≡ [] }
+        ensures lasting { lasting_len result ≡ 0 }
         ensures calls { calls_left result ≡ calls }
         ensures writes { writes_given result ≡ writes }
         ensures failures { memory_failures result ≡ 0 }
@@ -133,6 +137,7 @@ impl MemoryFolder {
 
     // Counts a call that fails.
     fn fail<X>(&mut self) -> Result<X, WriteFault>
+        ensures names { KeepsNames self.old self.new }
         ensures files { memory_files self.new ≡ memory_files self.old }
         ensures calls { calls_left self.new ≡ calls_left self.old }
         ensures told { memory_failures self.new ≡ counted 1 (memory_failures self.old) }
@@ -146,7 +151,7 @@ impl MemoryFolder {
     fn takes_call(&mut self) -> bool
         ensures takes { IsTrue result ↔ (0 < calls_left self.old) }
         ensures fewer { calls_left self.new ≡ calls_left self.old - 1 }
-        ensures writes { writes_given self.new ≡ writes_given self.old }
+        ensures names { KeepsNames self.old self.new }
         ensures files { memory_files self.new ≡ memory_files self.old }
         ensures told { memory_failures self.new ≡ memory_failures self.old }
     {
@@ -161,10 +166,10 @@ impl MemoryFolder {
 }
 
 impl Folder for MemoryFolder {
-    ghost use Rattle.std.specs.Prelude.{◌≡◌, ◌<◌, ◌-◌, ◌⊎◌, [], IfOk, OnErr, OnOk, Some};
+    ghost use Rattle.std.specs.Prelude.{◌≡◌, ◌<◌, ◌-◌, ◌⊎◌, [], IfOk, OnErr, OnOk, Some, length};
     ghost use Rattle.std.specs.Io.KnownBytes.{Keeps};
     ghost use Rattle.mrp_journal.specs.Memory.{TakesCall};
-    ghost use Rattle.mrp_folder.specs.Memory.{calls_left, memory_durable, memory_failures, memory_files, memory_lasting, part_bytes, writes_given, writes_left};
+    ghost use Rattle.mrp_folder.specs.Memory.{KeepsNames, calls_left, durable_len, lasting_len, memory_durable, memory_failures, memory_files, memory_lasting, part_bytes, writes_given, writes_left};
     ghost use Rattle.mrp_folder.specs.Named.{TellsFailure, with_name};
 
     type Part = MemoryPart;
@@ -179,8 +184,10 @@ impl Folder for MemoryFolder {
 
     fn begin(&mut self) -> Result<MemoryPart, WriteFault>
         ensures empty { IfOk result (λ part. part_bytes part ≡ []) }
+        ensures undurable { IfOk result (λ part. durable_len part ≡ 0) }
         ensures writes { IfOk result (λ part. writes_left part ≡ writes_given self.old) }
         ensures same { memory_files self.new ≡ memory_files self.old }
+        ensures names { KeepsNames self.old self.new }
         ensures told { TellsFailure (memory_failures self.old) (memory_failures self.new) result }
         ensures call { TakesCall (calls_left self.old) (calls_left self.new) result }
     {
@@ -197,7 +204,10 @@ impl Folder for MemoryFolder {
     fn sync(&mut self, part: &mut MemoryPart) -> Result<(), WriteFault>
         ensures bytes { part_bytes part.new ≡ part_bytes part.old }
         ensures synced { OnOk result (memory_durable part.new ≡ part_bytes part.new) }
+        ensures all { OnOk result (durable_len part.new ≡ length (part_bytes part.new)) }
+        ensures none { OnErr result (durable_len part.new ≡ durable_len part.old) }
         ensures same { memory_files self.new ≡ memory_files self.old }
+        ensures names { KeepsNames self.old self.new }
         ensures told { TellsFailure (memory_failures self.old) (memory_failures self.new) result }
         ensures call { TakesCall (calls_left self.old) (calls_left self.new) result }
     {
@@ -211,6 +221,7 @@ impl Folder for MemoryFolder {
     fn name(&mut self, part: MemoryPart, name: &str) -> Result<(), WriteFault>
         ensures named { OnOk result (Some (memory_files self.new) ≡ with_name name.now (Some (part_bytes part)) (Some (memory_durable part)) (Some (memory_files self.old))) }
         ensures same { OnErr result (memory_files self.new ≡ memory_files self.old) }
+        ensures names { KeepsNames self.old self.new }
         ensures told { TellsFailure (memory_failures self.old) (memory_failures self.new) result }
         ensures fewer { calls_left self.new ≡ calls_left self.old - 1 }
         ensures taken { OnOk result (0 < calls_left self.old) }
@@ -226,6 +237,9 @@ impl Folder for MemoryFolder {
 
     fn settle(&mut self) -> Result<(), WriteFault>
         ensures lasting { OnOk result (memory_lasting self.new ≡ memory_files self.new) }
+        ensures all { OnOk result (lasting_len self.new ≡ length (memory_files self.new)) }
+        ensures none { OnErr result (lasting_len self.new ≡ lasting_len self.old) }
+        ensures writes { writes_given self.new ≡ writes_given self.old }
         ensures same { memory_files self.new ≡ memory_files self.old }
         ensures told { TellsFailure (memory_failures self.old) (memory_failures self.new) result }
         ensures call { TakesCall (calls_left self.old) (calls_left self.new) result }

@@ -76,6 +76,7 @@ impl<'a, S: Store, D: Folder> SealedJournal<'a, S, D> {
         ensures text { KeepsText self.old self.new }
         ensures sealed { OnOk result (has_seal self.new ≡ true) }
         ensures unsealed { OnErr result (has_seal self.new ≢ true) }
+        ensures still { has_seal self.old ≡ true → folder_of self.new ≡ folder_of self.old }
         ensures there { OnOk result (has_seal self.old ≢ true → IsThere (text_of self.old) (name_of self.old) (D.named (folder_of self.old)) (D.named (folder_of self.new)) (D.lasting (folder_of self.new))) }
         ensures failed { IfErr result (Fails (D.failures (folder_of self.old)) (D.failures (folder_of self.new))) }
         ensures sound { OnOk result (failures_of_sealed self.new ≡ failures_of_sealed self.old) }
@@ -113,6 +114,7 @@ impl<'a, S: Store, D: Folder> Store for SealedJournal<'a, S, D> {
         ensures front { OnErr result (AppendsFront bytes.now (S.held (journal_of self.old)) (S.held (journal_of self.new))) }
         ensures told { TellsFailure (failures_of_sealed self.old + S.failures (journal_of self.old)) (failures_of_sealed self.new + S.failures (journal_of self.new)) result }
         ensures once { OnOk result (has_seal self.new ≡ true) }
+        ensures still { has_seal self.old ≡ true → folder_of self.new ≡ folder_of self.old }
         ensures text { KeepsText self.old self.new }
 
         // It fails only where the folder does, or the writes of the text's file, or the journal.

@@ -6,6 +6,7 @@ use Rattle.mrp_rows.specs.declared.told.Told.{Told}
 use Rattle.mrp_rows.specs.Told.{HasRisenBy, calls_of, inner_of, interrupted_of}
 use Rattle.mrp_intake.specs.Lines.{told_lines}
 use Rattle.mrp_intake.specs.declared.intake.TheConstants.{PIECE}
+use Rattle.mrp_intake.specs.declared.lines.TheConstants.{LONGEST_LINE}
 
 -- the lines of a batch, and what was read of the next line
 pub record Taken : Type 0 where
@@ -15,6 +16,15 @@ pub record Taken : Type 0 where
 -- no line ends in a text
 abbrev pub IsInLine : List ℕ → Type 0
 IsInLine text = list_any (λ byte. byte == 10) text ≡ false
+
+-- so much of a line is held until it ends: no more than shows that it is too long
+abbrev pub IsShort : List ℕ → Type 0
+IsShort text = length text ≤ LONGEST_LINE + 1
+
+-- a line has begun with this
+pub record IsBegun (text : List ℕ) : Type 0 where
+  pub in_line : IsInLine text
+  pub short : IsShort text
 
 -- a text ends as a line does
 pub record IsEnded (text : List ℕ) : Type 0 where

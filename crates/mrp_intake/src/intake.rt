@@ -17,13 +17,13 @@ pub struct Intake {
 }
 
 impl Model for Intake {
-    ghost use Rattle.mrp_intake.specs.Intake.{IsInLine, Taken};
+    ghost use Rattle.mrp_intake.specs.Intake.{IsBegun, Taken};
 
     ghost Value = { Taken };
 
     ghost view = { λ intake. record { batch = intake.batch.items; begun = intake.begun.items } };
 
-    ghost invariant = { λ intake. IsInLine intake.begun.items };
+    ghost invariant = { λ intake. IsBegun intake.begun.items };
 }
 
 impl Intake {

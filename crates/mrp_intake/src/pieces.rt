@@ -3,7 +3,7 @@
 ghost use Rattle.std.specs.Prelude.{◌≡◌, ◌≢◌, ◌≤◌, ◌<◌, ◌⊎◌, ◌++◌, ℕ, [], List, false, true, IfOk, IfSome, OnErr, OnOk, length, take};
 ghost use Rattle.std.specs.Io.KnownBytes.{Consumes, IsAtEnd, Keeps};
 ghost use Rattle.mrp_rows.specs.Told.{HasRisenBy, calls_of, counted, failures_of, greatest_count, inner_of, interrupted_of};
-ghost use Rattle.mrp_intake.specs.Intake.{IsEnded, IsInLine, retries_of};
+ghost use Rattle.mrp_intake.specs.Intake.{IsEnded, IsInLine, IsShort, retries_of};
 ghost use Rattle.mrp_intake.specs.Lines.{told_lines};
 
 use crate::intake::PIECE;
@@ -49,6 +49,7 @@ fn go_on(begun: &mut Vec<u8>, more: &[u8]) -> Result<(), AllocError>
     requires more { IsInLine more.now }
     ensures same { OnOk result ((after : List ℕ) → told_lines ((begun.old.items ++ more.now) ++ after) ≡ told_lines (begun.new.items ++ after)) }
     ensures within { IsInLine begun.new.items }
+    ensures short { IsShort begun.old.items → IsShort begun.new.items }
 {
     begun.extend_from_slice(more)?;
     begun.truncate(LONGEST_LINE + 1);
@@ -66,6 +67,7 @@ pub(crate) fn take_piece(
     ensures brings { OnOk result ((after : List ℕ) → told_lines (begun.old.items ++ given.now ++ after)
         ≡ told_lines batch.new.items ++ told_lines (begun.new.items ++ after)) }
     ensures within { IsInLine begun.new.items }
+    ensures short { IsShort begun.old.items → IsShort begun.new.items }
     ensures some { result ≡ Ok true → IsEnded batch.new.items }
     ensures none { result ≡ Ok false → batch.new.items ≡ [] }
     ensures waits { result ≡ Ok false → IsInLine given.now }

@@ -28,22 +28,22 @@ same_order a b = ((λ h. to h), (λ e. subst (λ (x : Order). (orders.ghosts).eq
   where
     to : (orders.ghosts).eq a b ≡ true → a ≡ b
     to h =
-        let (k, r1) = and_parts ((kinds.ghosts).eq a.kind b.kind) _ h in
-        let (d, r2) = and_parts (eqb a.due b.due) _ r1 in
-        let (q, r3) = and_parts (eqb a.quantity b.quantity) _ r2 in
-        let (s, r4) = and_parts (eqb a.start b.start) _ r3 in
-        let (r, l) = and_parts (eqb a.release b.release) (eqb a.late b.late) r4 in
+        let (q, r1) = and_parts (eqb a.quantity b.quantity) _ h in
+        let (s, r2) = and_parts (eqb a.start b.start) _ r1 in
+        let (d, r3) = and_parts (eqb a.due b.due) _ r2 in
+        let (r, r4) = and_parts (eqb a.release b.release) _ r3 in
+        let (l, k) = and_parts (eqb a.late b.late) ((kinds.ghosts).eq a.kind b.kind) r4 in
         (λ i. record {
-          kind = same_kind a.kind b.kind k i;
-          due = eqb-true a.due b.due d i;
           quantity = eqb-true a.quantity b.quantity q i;
           start = eqb-true a.start b.start s i;
+          due = eqb-true a.due b.due d i;
           release = eqb-true a.release b.release r i;
           late = eqb-true a.late b.late l i;
+          kind = same_kind a.kind b.kind k i;
         })
 
     own : (orders.ghosts).eq a a ≡ true
-    own = and_from _ _ (itself_kind a.kind) (and_from _ _ (itself a.due) (and_from _ _ (itself a.quantity) (and_from _ _ (itself a.start) (and_from _ _ (itself a.release) (itself a.late)))))
+    own = and_from _ _ (itself a.quantity) (and_from _ _ (itself a.start) (and_from _ _ (itself a.due) (and_from _ _ (itself a.release) (and_from _ _ (itself a.late) (itself_kind a.kind)))))
 
 pub same_due : (a b : Due) → Decides ((dues.ghosts).eq a b) (a ≡ b)
 same_due a b = ((λ h. to h), (λ e. subst (λ (x : Due). (dues.ghosts).eq a x ≡ true) e own))

@@ -14,17 +14,17 @@ pub enum OrderKind {
 /// An order of an item.
 #[derive(Clone, Copy, Debug, PartialEq, Eq)]
 pub struct Order {
-    /// Its origin.
-    pub kind: OrderKind,
-    /// The week in which it is due.
-    pub due: u16,
     /// The pieces that are due.
     pub quantity: Qty,
     /// The pieces started, so that the quantity remains after scrap.
     pub start: Qty,
+    /// The week in which it is due.
+    pub due: u16,
     /// The week of its release: week 1 for a late order.
     pub release: u16,
     /// By how much its release is late, in the unit of lead times: weeks, or shop days from version 2
     /// on.
     pub late: u16,
+    /// Its origin.
+    pub kind: OrderKind,
 }

@@ -1,6 +1,6 @@
 -- The bytes of a file, of which a front is durable: what a crash may leave of them, and what appending, syncing and cutting
 -- make of them (profile).
-use Rattle.std.specs.Prelude.{ℕ, ◌≡◌, ◌++◌, List, take, Option, Some, None, Result, Ok, Err, ⊤}
+use Rattle.std.specs.Prelude.{ℕ, ◌≡◌, ◌/◌, ◌++◌, List, length, take, Option, Some, None, Result, Ok, Err, ⊤}
 use Rattle.mrp_rows.specs.declared.streams.WriteFault.{WriteFault}
 use Rattle.mrp_rows.specs.Told.{HasRisenBy}
 
@@ -8,6 +8,10 @@ use Rattle.mrp_rows.specs.Told.{HasRisenBy}
 pub record IsFront (front text : List ℕ) : Type 0 where
   pub behind : List ℕ
   pub is : text ≡ front ++ behind
+
+-- the first half of a text
+abbrev pub half_of : List ℕ → List ℕ
+half_of text = take (length text / 2) text
 
 -- the bytes of a file, and those at its front that are durable
 pub record Held : Type 0 where

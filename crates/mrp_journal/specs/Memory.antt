@@ -1,6 +1,6 @@
 -- What contracts see of a file in memory (profile).
-use Rattle.std.specs.Prelude.{ℕ, ◌≡◌, ◌-◌, ◌<◌, Result, OnErr, OnOk, take, vec_capacity}
-use Rattle.mrp_journal.specs.Held.{Held}
+use Rattle.std.specs.Prelude.{ℕ, ◌≡◌, ◌⊎◌, ◌+◌, ◌-◌, ◌/◌, ◌<◌, List, Result, OnErr, OnOk, length, take, vec_capacity}
+use Rattle.mrp_journal.specs.Held.{Held, appended, half_of}
 use Rattle.mrp_journal.specs.declared.memory.MemoryStore.{MemoryStore}
 
 -- its bytes, and those that are durable
@@ -24,3 +24,7 @@ pub record TakesCall {X E : Type 0} (old new : ℕ) (result : Result X E) : Type
   pub fewer : new ≡ old - 1
   pub taken : OnOk result (0 < old)
   pub fails : OnErr result (old ≡ 0)
+
+-- a file took the first half of a text, or nothing, where there is no memory for that
+abbrev pub TakesHalf : List ℕ → ℕ → Held → Held → Type 0
+TakesHalf text room old new = (new ≡ appended (half_of text) old) ⊎ ((new ≡ old) × (room < length old.bytes + length text / 2))

@@ -64,12 +64,22 @@ impl<F: Write + OpenFile + Drop> Store for JournalFile<F> {
         self.told(outcome)
     }
 
-    fn sync(&mut self) -> Result<(), WriteFault> {
+    fn sync(&mut self) -> Result<(), WriteFault>
+        ensures told { TellsFailure (failures_told self.old) (failures_told self.new) result }
+
+        // It writes nothing.
+        ensures file { file_of self.new ≡ file_of self.old }
+    {
         let outcome = self.file.sync_data();
         self.told(outcome)
     }
 
-    fn cut(&mut self, count: usize) -> Result<(), WriteFault> {
+    fn cut(&mut self, count: usize) -> Result<(), WriteFault>
+        ensures told { TellsFailure (failures_told self.old) (failures_told self.new) result }
+
+        // It writes nothing.
+        ensures file { file_of self.new ≡ file_of self.old }
+    {
         let outcome = cut_file(&self.file, count);
         self.told(outcome)
     }

@@ -1,7 +1,7 @@
 //! A journal in memory.
 
-ghost use Rattle.std.specs.Prelude.{◌≡◌, ◌≤◌, ◌++◌, ℕ, List, vec_len};
-ghost use Rattle.mrp_journal.specs.Held.{IsFront};
+ghost use Rattle.std.specs.Prelude.{◌≡◌, ◌≤◌, ◌<◌, ◌+◌, ◌/◌, ◌⊎◌, ◌++◌, ℕ, List, length, vec_capacity, vec_len};
+ghost use Rattle.mrp_journal.specs.Held.{IsFront, half_of};
 
 use crate::store::Store;
 use mrp_rows::WriteFault;
@@ -20,7 +20,9 @@ pub struct MemoryStore {
 
 // Appends the first half of a text, or nothing if there is no memory.
 fn push_half(bytes: &mut Vec<u8>, more: &[u8])
-    ensures { (front : List ℕ) × IsFront front more.now × (bytes.new.items ≡ bytes.old.items ++ front) }
+    ensures front { (front : List ℕ) × IsFront front more.now × (bytes.new.items ≡ bytes.old.items ++ front) }
+    ensures half { (bytes.new.items ≡ bytes.old.items ++ half_of more.now)
+        ⊎ ((bytes.new.items ≡ bytes.old.items) × (vec_capacity bytes.old < vec_len bytes.old + length more.now / 2)) }
 {
     let (half, _) = more.split_at(more.len() / 2);
     match bytes.extend_from_slice(half) {
@@ -97,7 +99,7 @@ impl MemoryStore {
 impl Store for MemoryStore {
     ghost use Rattle.std.specs.Prelude.{◌≡◌, ◌≤◌, ◌<◌, ◌-◌, ◌+◌, ◌⊎◌, Some, OnErr, OnOk, length};
     ghost use Rattle.mrp_journal.specs.Held.{AppendsFront, TellsFailure, appended, cut_to, half_cut, synced};
-    ghost use Rattle.mrp_journal.specs.Memory.{TakesCall, calls_left, memory_failures, memory_held, memory_room};
+    ghost use Rattle.mrp_journal.specs.Memory.{TakesCall, TakesHalf, calls_left, memory_failures, memory_held, memory_room};
 
     ghost held = { λ file. Some (memory_held file) };
 
@@ -112,6 +114,10 @@ impl Store for MemoryStore {
 
         // It fails only where no call is left, or there is no memory for the bytes yet.
         ensures fails { OnErr result ((calls_left self.old ≡ 0) ⊎ (memory_room self.old < length (memory_held self.old).bytes + length bytes.now)) }
+
+        // Where no call is left it takes half, and without memory nothing.
+        ensures half { calls_left self.old ≡ 0 → TakesHalf bytes.now (memory_room self.old) (memory_held self.old) (memory_held self.new) }
+        ensures none { OnErr result (0 < calls_left self.old → memory_held self.new ≡ memory_held self.old) }
     {
         if !self.takes_call() {
             push_half(&mut self.bytes, bytes);

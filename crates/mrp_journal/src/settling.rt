@@ -1,11 +1,11 @@
 //! The records and the answers of a batch.
 
-ghost use Rattle.std.specs.Prelude.{◌≡◌, ◌⊎◌, IfSome, OnErr, OnOk, option_map};
+ghost use Rattle.std.specs.Prelude.{◌≡◌, ◌⊎◌, [], IfSome, OnErr, OnOk, option_map};
 ghost use Rattle.std.specs.Io.KnownBytes.{Appends, Keeps};
 ghost use Rattle.mrp_rows.specs.Streams.{WritesFront};
 ghost use Rattle.mrp_rows.specs.Told.{HasRisenBy, calls_of, failures_of, inner_of, interrupted_of};
 ghost use Rattle.mrp_rows.specs.declared.streams.TheConstants.{WRITE_TRIES};
-ghost use Rattle.mrp_journal.specs.Held.{Becomes, IsSettled};
+ghost use Rattle.mrp_journal.specs.Held.{AppendsFront, Becomes, IsSettled};
 ghost use Rattle.mrp_journal.specs.Journal.{KeepsSafely, WritesThrough, with_more};
 
 use crate::keeping::keep;
@@ -73,6 +73,11 @@ pub fn settle<S: Store, W: Write>(
     ensures durable { Keeps (W.contents (inner_of out.old)) (W.contents (inner_of out.new))
         ⊎ (S.held journal.new ≡ option_map (with_more records.now) (S.held journal.old)) }
     ensures safe { Becomes (KeepsSafely records.now) (S.held journal.old) (S.held journal.new) }
+
+    // Without records no call is made, and nothing is tried again: what a failed call has left stays.
+    ensures idle { records.now ≡ [] → journal.new ≡ journal.old }
+    ensures left { OnErr result (AppendsFront records.now (S.held journal.old) (S.held journal.new)
+        ⊎ (S.held journal.new ≡ option_map (with_more records.now) (S.held journal.old))) }
     ensures refused { OnErr result (HasRisenBy 1 (S.failures journal.old) (S.failures journal.new)
         ⊎ HasRisenBy 1 (failures_of out.old) (failures_of out.new)
         ⊎ HasRisenBy WRITE_TRIES (interrupted_of out.old) (interrupted_of out.new)) }

@@ -1,11 +1,14 @@
 -- The three parts in which a bundle's tables are read: the calendar, the items and the centres; from the stock to the
 -- routings; and the master schedule with the script.
 use Rattle.std.specs.Prelude.{ℕ, ◌≡◌, ◌⊎◌, List, Result, Ok, Err}
+use Rattle.std.specs.Global.{Vec}
 use Rattle.mrp_rows.specs.declared.fault.Fault.{Fault}
 use Rattle.mrp_rows.specs.declared.fault.Table.TheVariants as t
 use Rattle.mrp_tables.specs.declared.first_tables.FirstTables.{FirstTables}
 use Rattle.mrp_tables.specs.declared.stock_to_routings.StockToRoutings.{StockToRoutings}
 use Rattle.mrp_tables.specs.declared.master_and_script.MasterAndScript.{MasterAndScript}
+use Rattle.mrp_tables.specs.declared.rows.Receipt.{Receipt}
+use Rattle.mrp_tables.specs.declared.rows.StockRow.{StockRow}
 use Rattle.mrp_tables.specs.Laws.{AreWholeBefore, IsMemoryRefusal}
 use Rattle.mrp_tables.specs.Readers.{table_in}
 use Rattle.mrp_tables.specs.Tables.{Tables, tables_in}
@@ -36,6 +39,11 @@ pub record AreMasterAndScript (texts : List (List ℕ)) (rows : MasterAndScript)
 abbrev pub GivesFirst : List (List ℕ) → Result FirstTables Fault → Type 0
 GivesFirst texts (Ok first) = AreFirst texts first
 GivesFirst texts (Err f) = IsBundleRefusal texts f
+
+-- a call returned the rows of the stock and of the open receipts, or the bundle's refusal
+abbrev pub GivesSupplies : List (List ℕ) → Result (Vec StockRow × Vec Receipt) Fault → Type 0
+GivesSupplies texts (Ok rows) = (table_in texts t.Stock ≡ Ok rows.0.items) × (table_in texts t.Receipts ≡ Ok rows.1.items)
+GivesSupplies texts (Err f) = IsBundleRefusal texts f
 
 -- a call returned the rows from the stock to the routings, or the bundle's refusal
 abbrev pub GivesStockToRoutings : List (List ℕ) → Result StockToRoutings Fault → Type 0

@@ -67,7 +67,8 @@ impl Model for Tables {
     }) };
 }
 
-// The tables from the stock to the routings and, in a thread of its own if one can be started, the master schedule.
+// The tables from the stock to the routings and the master schedule: the bills and the schedule each in a thread of its
+// own, if one can be started.
 fn read_to_master(
     rt: &impl Threads,
     alloc: Global,
@@ -96,7 +97,7 @@ fn read_to_master(
     let read_rows = move || -> Result<StockToRoutings, Fault>
         requires { AreFirst sections.now first.now }
         ensures { GivesStockToRoutings sections.entry.now result }
-    { StockToRoutings::read(alloc, sections, first) };
+    { StockToRoutings::read_parallel(rt, alloc, sections, first) };
     let (master, rows) = thread::join(rt, read_master, read_rows);
     (rows, master)
 }
@@ -133,9 +134,9 @@ impl Tables {
         Ok(Tables::of(first, rows, last))
     }
 
-    /// The same, with the master schedule and the script each read in parallel with the tables from the stock
-    /// to the routings: in threads of their own, or after these if none can be started. Of several refusals
-    /// that of the earliest table is still the one returned.
+    /// The same, with the bills, the master schedule and the script each read in parallel with the other tables
+    /// from the stock on: in threads of their own, or one after the other if none can be started. Of several
+    /// refusals that of the earliest table is still the one returned.
     ///
     /// Errors: as `read`.
     pub fn read_parallel(

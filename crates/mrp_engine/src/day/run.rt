@@ -69,7 +69,7 @@ fn plan_day(
 /// is written before every run is planned. The caller guarantees that the bundle has at most 67,108,864
 /// bytes; they are dropped once its shop is open.
 ///
-/// The tables are read in three threads, and one thread groups the rows of the shop while another answers the
+/// The tables are read in four threads, and one thread groups the rows of the shop while another answers the
 /// script, if they can be started. `workers` threads (1 to 64, as the caller guarantees) plan the
 /// items of the first run, and make the rows of each run's report; later runs are planned by net change from the
 /// run before. The loads of work centres are summed in parallel if there are enough of them. An interrupted
