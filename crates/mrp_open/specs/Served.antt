@@ -135,8 +135,7 @@ IsServingEnd end = (end ≡ ending.Done) ⊎ ((end ≡ ending.NoMemory) ⊎ ((en
 abbrev pub FailsToRead : Source → Source → Type 0
 FailsToRead old new = HasRisenBy 1 old.failures new.failures ⊎ ((greatest_count ≤ new.interrupted) ⊎ HasRisenBy READ_CALLS old.calls new.calls)
 
--- an order desk has stopped in a batch of lines, or as it read them; where it is done, no line is left, and memory has lacked for
--- a line
+-- an order desk has stopped in a batch of lines, or as it read them; where it is done, no line is left
 pub record StopsAt (begun : List ℕ) (given left : Source) (old new : Stand) (end : Ending) : Type 0 where
   pub lines : List (List ℕ)
   pub rest : List (List ℕ)
@@ -145,12 +144,11 @@ pub record StopsAt (begun : List ℕ) (given left : Source) (old new : Stand) (e
   pub fails : end ≡ ending.Read → FailsToRead given left
   pub clear : end ≢ ending.Read → left.failures ≡ given.failures
   pub all : end ≡ ending.Done → (lines ≡ []) × (rest ≡ []) × (new ≡ old)
-  pub memory : end ≡ ending.NoMemory → lines ++ rest ≢ []
   pub ends : IsServingEnd end
 
 -- an order desk has answered lines of its input, one after the other, handed over their runs, and stopped in a batch of
--- more lines, or as it read them; at the end of the input all lines are answered, and memory has lacked for a line; what has
--- failed failed in that batch, and is what the end tells
+-- more lines, or as it read them; at the end of the input all lines are answered; what has failed failed in that batch, and
+-- is what the end tells
 pub record Serves (given left : Source) (old new : Stand) (handed_old handed_new : Handed) (end : Ending) : Type 0 where
   pub lines : List (List ℕ)
   pub more : List (List ℕ)
@@ -164,7 +162,6 @@ pub record Serves (given left : Source) (old new : Stand) (handed_old handed_new
   pub fails : end ≡ ending.Read → FailsToRead waiting left
   pub clear : end ≢ ending.Read → left.failures ≡ waiting.failures
   pub all : end ≡ ending.Done → (more ≡ []) × (rest ≡ []) × (new ≡ between)
-  pub memory : end ≡ ending.NoMemory → more ++ rest ≢ []
   pub ends : IsServingEnd end
 
 -- runs of the journal without a file in the folder are handed over, and then lines of the input are answered
