@@ -50,7 +50,7 @@ impl<'a> Model for OpenDesk<'a> {
 }
 
 impl<'a> OpenDesk<'a> {
-    ghost use Rattle.std.specs.Prelude.{◌≡◌, ◌+◌, ◌*◌, ◌<◌, ◌≤◌, ◌++◌, IfOk, OnErr, OnOk, length, vec_capacity, vec_len};
+    ghost use Rattle.std.specs.Prelude.{◌≡◌, ◌+◌, ◌*◌, ◌<◌, ◌≤◌, ◌++◌, [], IfOk, OnErr, OnOk, length, vec_capacity, vec_len};
     ghost use Rattle.mrp_intake.specs.Lines.{told_lines};
     ghost use Rattle.mrp_tables.specs.Facts.{IsScriptRow};
     ghost use Rattle.mrp_tables.specs.declared.limits.TheConstants.{MOST_ROWS};
@@ -214,6 +214,7 @@ impl<'a> OpenDesk<'a> {
     ) -> Result<(), NoMemory>
         ensures answered { OnOk result (Answers (told_lines batch.now) self.old answers.new.items records.new.items self.new) }
         ensures same { OnErr result (self.new ≡ self.old) }
+        ensures none { OnErr result ((answers.new.items ≡ []) × (records.new.items ≡ [])) }
         ensures full { OnErr result (vec_capacity answers.old < LONGEST_SHORT * length batch.now) }
     {
         answers.clear();

@@ -2,7 +2,7 @@
 
 ghost use Rattle.std.specs.Prelude.{◌++◌, ◌∷◌, [], OnErr, OnOk};
 ghost use Rattle.mrp_report.specs.Taken.{HasTakenAll};
-ghost use Rattle.mrp_report.specs.Written.{HasGivenUp};
+ghost use Rattle.mrp_report.specs.Written.{HasGivenUp, HasTakenFront};
 ghost use Rattle.mrp_rows.specs.declared.streams.TheConstants.{WRITE_TRIES};
 
 use mrp_engine::DayFault;
@@ -21,6 +21,7 @@ pub enum Refusal {
 // Writes a text.
 pub(crate) fn write_whole<W: Write>(writer: &mut Told<W>, text: &[u8]) -> Result<(), WriteFault>
     ensures whole { OnOk result (HasTakenAll W.contents writer.old writer.new text.now) }
+    ensures front { OnErr result (HasTakenFront W.contents writer.old writer.new text.now) }
     ensures gave_up { OnErr result (HasGivenUp writer.old writer.new WRITE_TRIES) }
 {
     write_text(writer, text, &mut Tries::new())
@@ -33,6 +34,7 @@ pub(crate) fn write_line<W: Write>(
     rest: &[u8],
 ) -> Result<(), WriteFault>
     ensures whole { OnOk result (HasTakenAll W.contents writer.old writer.new (head.now ++ rest.now ++ 10 ∷ [])) }
+    ensures front { OnErr result (HasTakenFront W.contents writer.old writer.new (head.now ++ rest.now ++ 10 ∷ [])) }
     ensures gave_up { OnErr result (HasGivenUp writer.old writer.new WRITE_TRIES) }
 {
     write_whole(writer, head)?;
@@ -43,7 +45,7 @@ pub(crate) fn write_line<W: Write>(
 impl Refusal {
     ghost use Rattle.std.specs.Prelude.{◌≡◌, OnErr, OnOk};
     ghost use Rattle.mrp_report.specs.Taken.{HasTakenAll};
-    ghost use Rattle.mrp_report.specs.Written.{HasGivenUp};
+    ghost use Rattle.mrp_report.specs.Written.{HasGivenUp, HasTakenFront};
     ghost use Rattle.mrp_rows.specs.declared.streams.TheConstants.{WRITE_TRIES};
     ghost use Rattle.mrp_runs.specs.File.{refusal_of, refusal_text};
 
@@ -60,6 +62,7 @@ impl Refusal {
     // Writes the line that says why, as `too large: FRAME` or `no memory`.
     pub(crate) fn write<W: Write>(&self, writer: &mut Told<W>) -> Result<(), WriteFault>
         ensures whole { OnOk result (HasTakenAll W.contents writer.old writer.new (refusal_text self.now)) }
+        ensures front { OnErr result (HasTakenFront W.contents writer.old writer.new (refusal_text self.now)) }
         ensures gave_up { OnErr result (HasGivenUp writer.old writer.new WRITE_TRIES) }
     {
         match self {

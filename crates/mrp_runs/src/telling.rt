@@ -2,7 +2,7 @@
 
 ghost use Rattle.std.specs.Prelude.{◌≡◌, OnErr, OnOk};
 ghost use Rattle.mrp_report.specs.Taken.{HasTakenAll};
-ghost use Rattle.mrp_report.specs.Written.{HasGivenUp};
+ghost use Rattle.mrp_report.specs.Written.{HasGivenUp, HasTakenFront};
 ghost use Rattle.mrp_rows.specs.declared.streams.TheConstants.{WRITE_TRIES};
 ghost use Rattle.mrp_runs.specs.Notes.{note_text, rest_of};
 
@@ -41,6 +41,7 @@ impl Note {
 // Writes a note behind the number of its run.
 fn write_note<W: Write>(note: Note, writer: &mut Told<W>) -> Result<(), WriteFault>
     ensures whole { OnOk result (HasTakenAll W.contents writer.old writer.new (rest_of note)) }
+    ensures front { OnErr result (HasTakenFront W.contents writer.old writer.new (rest_of note)) }
     ensures gave_up { OnErr result (HasGivenUp writer.old writer.new WRITE_TRIES) }
 {
     match note {
@@ -51,9 +52,10 @@ fn write_note<W: Write>(note: Note, writer: &mut Told<W>) -> Result<(), WriteFau
 
 /// Tells of a run, by its number: `run 7: too large: FRAME`, `run 7: no memory` or `run 7: write failed`.
 ///
-/// Errors: if a write failed.
+/// Errors: if a write failed. A prefix of the line has been written then.
 pub fn tell_run<W: Write>(front: u64, note: Note, writer: &mut Told<W>) -> Result<(), WriteFault>
     ensures whole { OnOk result (HasTakenAll W.contents writer.old writer.new (note_text front note)) }
+    ensures front { OnErr result (HasTakenFront W.contents writer.old writer.new (note_text front note)) }
     ensures gave_up { OnErr result (HasGivenUp writer.old writer.new WRITE_TRIES) }
 {
     let mut digits = Buffer::new();
