@@ -12,6 +12,7 @@ mod PaddedTexts
 mod PlainCells
 mod PlainStops
 mod RecordCuts
+pub mod RecordSeams
 pub mod JoinedParts
 mod MaskLanes
 pub mod SectionLaws

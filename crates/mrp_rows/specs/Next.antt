@@ -1,5 +1,5 @@
 -- What opening a table gives, and what a call of `next` gives and leaves (profile).
-use Rattle.std.specs.Prelude.{ℕ, ◌≡◌, ◌≢◌, ◌⊎◌, ◌+◌, if◌then◌else◌, Bool, List, [], ◌∷◌, length, Option, Some, None, Result, Ok, Err, min, nat_eq, true, false}
+use Rattle.std.specs.Prelude.{ℕ, ◌≡◌, ◌≢◌, ◌⊎◌, ◌+◌, if◌then◌else◌, Bool, List, [], ◌∷◌, ◌++◌, length, Option, Some, None, Result, Ok, Err, min, nat_eq, true, false}
 use Rattle.std.specs.Cmp.Lexicographic.{pointwise}
 use Rattle.mrp_rows.specs.declared.fault.Fault.{Fault}
 use Rattle.mrp_rows.specs.declared.faults.TheConstants as faults
@@ -104,3 +104,9 @@ abbrev pub NextIs : Left → Result (Option Cells) Fault → Left → Type 0
 NextIs old (Ok None) new = HasEnded old new
 NextIs old (Ok (Some r)) new = IsNext old r new
 NextIs old (Err f) new = IsRefused (LacksMemory old f new ⊎ IsMisshapen old f new) old new
+
+-- the remaining records in two parts: those of the first keep their numbers, those of the second are counted from 1
+pub record AreHalves (all front behind : Left) : Type 0 where
+  pub parts : all.left ≡ front.left ++ behind.left
+  pub first : front ≡ record { layout = all.layout; number = all.number; left = front.left; is_over = all.is_over }
+  pub second : behind ≡ record { layout = all.layout; number = 1; left = behind.left; is_over = all.is_over }

@@ -4,7 +4,7 @@ ghost use Rattle.std.specs.Prelude.{◌≡◌, ◌==◌, Err, [], if◌then◌el
 ghost use Rattle.mrp_rows.specs.Bundle.{text_in};
 ghost use Rattle.mrp_rows.specs.Columns.{layout_of, stepped_layout};
 ghost use Rattle.mrp_rows.specs.declared.faults.TheConstants as faults;
-ghost use Rattle.mrp_rows.specs.Next.{GivesUnless, NextIs, header_fault, headed, memory_fault, opened};
+ghost use Rattle.mrp_rows.specs.Next.{AreHalves, GivesUnless, NextIs, header_fault, headed, memory_fault, opened};
 
 use crate::bundle::{Sections, after_mark};
 use crate::cell_texts::CellTexts;
@@ -12,6 +12,7 @@ use crate::column::{columns, is_header, stepped_columns};
 use crate::cutting::first_record;
 use crate::fault::{Fault, Table};
 use crate::faults::{COLUMNS, HEADER, NO_MEMORY};
+use crate::halving::cut_in_two;
 use crate::row::Row;
 use std::alloc::Global;
 use std::marker::Model;
@@ -147,6 +148,26 @@ impl<'a> Cursor<'a> {
         ensures { self.new ≡ self.old }
     {
         self.spare = Some(row.into_cells());
+    }
+
+    /// The remaining records in two parts, of which two threads can read one each. Those of the second are
+    /// counted from 1; it has none where the records are few, or where quotation marks stand in the first half.
+    pub fn halves(self) -> (Cursor<'a>, Cursor<'a>)
+        ensures { AreHalves self.entry result.0 result.1 }
+    {
+        let (front, behind) = cut_in_two(self.text);
+        let second = Cursor {
+            alloc: self.alloc,
+            text: behind,
+            table: self.table,
+            columns: self.columns,
+            number: 1,
+            done: self.done,
+            spare: None,
+        };
+        let mut first = self;
+        first.text = front;
+        (first, second)
     }
 
     // Refuses a record, after which there is none.

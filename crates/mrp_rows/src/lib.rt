@@ -11,6 +11,7 @@ pub mod devices;
 mod fault;
 mod fault_texts;
 pub mod faults;
+mod halving;
 mod join;
 mod masks;
 mod name;
