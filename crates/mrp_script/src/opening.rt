@@ -58,7 +58,7 @@ fn shop_of(alloc: Global, tables: Tables) -> Result<Shop, OpenFault>
     }
 }
 
-/// Opens the shop of a bundle. Its tables are read in four threads if they can be started.
+/// Opens the shop of a bundle. Its tables are read in six threads if they can be started.
 ///
 /// Errors: `Refused` with the bundle's first fault, a loop in the bill last; `NoMemory` if an
 /// allocation fails.

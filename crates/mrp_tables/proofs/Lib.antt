@@ -8,14 +8,17 @@ mod Distinct
 mod Entries
 mod Fresh
 mod Gathering
+mod HalvesRead
 mod Kept
 mod Opening
+mod NumberedOn
 mod OwnTable
 mod PartsRead
 mod RecordsRead
 mod RowLaws
 mod Refused
 mod Rising
+mod RowsMoved
 mod SevenFlags
 mod Stocked
 mod TableLaws

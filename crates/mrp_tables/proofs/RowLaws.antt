@@ -93,7 +93,7 @@ by_header own made all true one e = let h : made ≡ all = cc in ap (λ (l : Lef
 by_header own made all false one e = absurd cc
 
 -- after the header the records are counted from 1
-from_one : (own : Layout) (records : Records) (all : Left) → after_header own records ≡ Ok all → all.number ≡ 1
+pub from_one : (own : Layout) (records : Records) (all : Left) → after_header own records ≡ Ok all → all.number ≡ 1
 from_one own [] all e = absurd cc
 from_one own (header ∷ records) all e =
     by_header own (record { layout = own; number = 1; left = records; is_over = false }) all (pointwise (pointwise nat_eq) header own.columns) refl e

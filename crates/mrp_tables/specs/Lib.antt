@@ -3,6 +3,7 @@ pub mod Calendar
 pub mod Centres
 pub mod Facts
 pub mod Gathered
+pub mod Halves
 pub mod Items
 pub mod Laws
 pub mod Limits

@@ -4,12 +4,13 @@ ghost use Rattle.std.specs.Prelude.{◌≡◌, length, IfOk};
 ghost use Rattle.mrp_tables.specs.Bills.{bill_row};
 ghost use Rattle.mrp_tables.specs.Facts.{IsBillLine};
 
+use crate::halves::{gather_half, join_rows};
 use crate::items::Items;
 use crate::limits::{MOST_PER, most_records};
 use crate::reading::{TableRows, read_table};
 use crate::rows::BillLine;
 use mrp_rows::faults::{MASTER_COMPONENT, NO_MEMORY, UNKNOWN_ITEM};
-use mrp_rows::{Fault, Row, Sections, Table};
+use mrp_rows::{Cursor, Fault, Row, Sections, Table};
 use std::alloc::Global;
 use std::marker::Model;
 
@@ -91,9 +92,13 @@ fn bill_line(row: &Row, items: &Items) -> Result<BillLine, Fault>
 
 impl<'a> Bills<'a> {
     ghost use Rattle.std.specs.Prelude.{◌≡◌, ◌≤◌, [], All, IfOk, Ok, length};
+    ghost use Rattle.mrp_rows.specs.Bundle.{text_in};
+    ghost use Rattle.mrp_rows.specs.Columns.{layout_of};
     ghost use Rattle.mrp_tables.specs.declared.limits.TheConstants.{MOST_ROWS};
     ghost use Rattle.mrp_tables.specs.Facts.{IsBillLine};
+    ghost use Rattle.mrp_tables.specs.Halves.{GiveHalves, GivesBillsHalf};
     ghost use Rattle.mrp_tables.specs.Readers.{GivesTable, items_in};
+    ghost use Rattle.mrp_tables.specs.Reading.{by_itself, reads_of};
 
     pub(crate) fn read(
         alloc: Global,
@@ -107,6 +112,42 @@ impl<'a> Bills<'a> {
     {
         let bills = read_table(alloc, sections, Table::Bills, Bills::new(alloc, items))?;
         Ok(bills.into_lines())
+    }
+
+    // The lines of half of the table's records, unless one is refused or memory runs out.
+    pub(crate) fn read_half(
+        alloc: Global,
+        half: &mut Cursor<'_>,
+        items: &'a Items,
+    ) -> Option<Vec<BillLine>>
+        requires { half.old.layout ≡ layout_of Table.Bills }
+        ensures { GivesBillsHalf items.now half.old result }
+    {
+        match gather_half(half, Bills::new(alloc, items)) {
+            Some(bills) => Some(bills.into_lines()),
+            None => None,
+        }
+    }
+
+    // The lines of the table from those of its halves. It is read again where a half was refused or both have too many.
+    pub(crate) fn of_halves(
+        alloc: Global,
+        sections: &Sections<'_>,
+        items: &'a Items,
+        front: Option<Vec<BillLine>>,
+        behind: Option<Vec<BillLine>>,
+    ) -> Result<Vec<BillLine>, Fault>
+        requires items { items_in sections.now ≡ Ok items.now }
+        requires halves { GiveHalves (reads_of Table.Bills (by_itself (bill_row items.now))) (layout_of Table.Bills)
+            (text_in sections.now Table.Bills) (λ lines. lines.items) front behind }
+        ensures { GivesTable sections.now Table.Bills result (λ lines. lines.items) }
+    {
+        if let (Some(front), Some(behind)) = (front, behind)
+            && let Some(lines) = join_rows(front, behind)
+        {
+            return Ok(lines);
+        }
+        Bills::read(alloc, sections, items)
     }
 
     fn new(alloc: Global, items: &'a Items) -> Bills<'a>

@@ -6,6 +6,7 @@ mod calendar;
 mod cells;
 mod centres;
 mod first_tables;
+mod halves;
 mod item;
 mod items;
 pub mod laws;

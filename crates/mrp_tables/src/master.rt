@@ -1,10 +1,12 @@
 //! The master schedule's table.
 
-ghost use Rattle.std.specs.Prelude.{◌≡◌, ◌==◌, if◌then◌else◌, length, IfOk};
+ghost use Rattle.std.specs.Prelude.{◌≡◌, ◌==◌, if◌then◌else◌, length, map, IfOk, IfSome};
 ghost use Rattle.mrp_tables.specs.Facts.{IsMasterRowIfAny};
+ghost use Rattle.mrp_tables.specs.Halves.{AreJoined, numbered_on};
 ghost use Rattle.mrp_tables.specs.Master.{kind_at, master_row, that_count};
 
 use crate::cells::quantity;
+use crate::halves::{gather_half, join_rows};
 use crate::items::Items;
 use crate::limits::{MOST_PIECES, most_records};
 use crate::reading::{TableRows, read_table};
@@ -12,7 +14,7 @@ use crate::rows::{MasterKind, MasterRow};
 use crate::version::Version;
 use mrp_cal::Calendar;
 use mrp_rows::faults::{DATE_OUTSIDE, NO_MEMORY, UNKNOWN_ITEM};
-use mrp_rows::{Fault, Row, Sections, Table};
+use mrp_rows::{Cursor, Fault, Row, Sections, Table};
 use std::alloc::Global;
 use std::marker::Model;
 
@@ -112,10 +114,14 @@ fn master_row(
 
 impl<'a> Master<'a> {
     ghost use Rattle.std.specs.Prelude.{◌≡◌, ◌≤◌, [], All, IfOk, Ok, length};
+    ghost use Rattle.mrp_rows.specs.Bundle.{text_in};
+    ghost use Rattle.mrp_rows.specs.Columns.{layout_of};
     ghost use Rattle.mrp_tables.specs.declared.limits.TheConstants.{MOST_ROWS};
     ghost use Rattle.mrp_tables.specs.Facts.{IsMasterRow};
-    ghost use Rattle.mrp_tables.specs.Master.{that_count};
+    ghost use Rattle.mrp_tables.specs.Halves.{GiveHalves, GivesMasterHalf};
+    ghost use Rattle.mrp_tables.specs.Master.{master_row, that_count};
     ghost use Rattle.mrp_tables.specs.Readers.{GivesTable, calendar_in, items_in, version_in};
+    ghost use Rattle.mrp_tables.specs.Reading.{by_itself, reads_of};
 
     pub(crate) fn read(
         alloc: Global,
@@ -134,6 +140,48 @@ impl<'a> Master<'a> {
         let empty = Master::new(alloc, version, calendar, items);
         let master = read_table(alloc, sections, Table::Master, empty)?;
         Ok(master.into_rows())
+    }
+
+    // The rows of half of the table's records, also those of quantity 0, unless a record is refused or memory runs out.
+    pub(crate) fn read_half(
+        alloc: Global,
+        half: &mut Cursor<'_>,
+        version: Version,
+        calendar: &'a Calendar,
+        items: &'a Items,
+    ) -> Option<Vec<MasterRow>>
+        requires { half.old.layout ≡ layout_of Table.Master }
+        ensures { GivesMasterHalf version calendar.now items.now half.old result }
+    {
+        match gather_half(half, Master::new(alloc, version, calendar, items)) {
+            Some(master) => Some(master.rows),
+            None => None,
+        }
+    }
+
+    // The rows of the table from those of its halves. It is read again where a half was refused or both have too many.
+    pub(crate) fn of_halves(
+        alloc: Global,
+        sections: &Sections<'_>,
+        version: Version,
+        calendar: &'a Calendar,
+        items: &'a Items,
+        front: Option<Vec<MasterRow>>,
+        behind: Option<Vec<MasterRow>>,
+    ) -> Result<Vec<MasterRow>, Fault>
+        requires version { version_in sections.now ≡ Ok version }
+        requires calendar { calendar_in sections.now ≡ Ok calendar.now }
+        requires items { items_in sections.now ≡ Ok items.now }
+        requires halves { GiveHalves (reads_of Table.Master (by_itself (master_row version calendar.now items.now))) (layout_of Table.Master)
+            (text_in sections.now Table.Master) (λ rows. rows.items) front behind }
+        ensures { GivesTable sections.now Table.Master result (λ rows. rows.items) }
+    {
+        if let (Some(front), Some(behind)) = (front, behind)
+            && let Some(rows) = join_numbered(front, behind)
+        {
+            return Ok(that_count(rows));
+        }
+        Master::read(alloc, sections, version, calendar, items)
     }
 
     fn new(alloc: Global, version: Version, calendar: &'a Calendar, items: &'a Items) -> Master<'a>
@@ -161,6 +209,26 @@ impl<'a> Master<'a> {
         } = self;
         that_count(rows)
     }
+}
+
+// The rows of both halves, those behind numbered on from those in front, unless a table has no place for so many or memory runs out.
+fn join_numbered(front: Vec<MasterRow>, behind: Vec<MasterRow>) -> Option<Vec<MasterRow>>
+    ensures { IfSome result (λ rows. AreJoined front.items (map (numbered_on (length front.items)) behind.items) rows.items) }
+{
+    let Ok(count) = u32::try_from(front.len()) else {
+        return None;
+    };
+    join_rows(front, number_on(behind, count))
+}
+
+// Rows with so many records more in front of them.
+fn number_on(mut rows: Vec<MasterRow>, count: u32) -> Vec<MasterRow>
+    ensures { result.items ≡ map (numbered_on count) rows.items }
+{
+    for row in rows.iter_mut() {
+        row.number = row.number.saturating_add(count);
+    }
+    rows
 }
 
 fn that_count(mut rows: Vec<MasterRow>) -> Vec<MasterRow>

@@ -1,10 +1,14 @@
 //! The tables of a bundle.
 
+ghost use Rattle.std.specs.Prelude.{◌≡◌};
+ghost use Rattle.mrp_rows.specs.Columns.{layout_of};
 ghost use Rattle.mrp_tables.specs.declared.limits.TheConstants.{MOST_CENTRES, MOST_ITEMS, MOST_OPERATIONS, MOST_ROWS};
+ghost use Rattle.mrp_tables.specs.Halves.{GivesMasterHalf};
 ghost use Rattle.mrp_tables.specs.Parts.{AreFirst, GivesStockToRoutings};
 ghost use Rattle.mrp_tables.specs.Readers.{GivesTable};
 
 use crate::first_tables::FirstTables;
+use crate::halves::halves_of;
 use crate::item::Item;
 use crate::items::Items;
 use crate::master::Master;
@@ -14,7 +18,7 @@ use crate::script::{Script, script_row};
 use crate::stock_to_routings::StockToRoutings;
 use crate::version::{LeadUnit, Version};
 use mrp_cal::Calendar;
-use mrp_rows::{Fault, Name, Row, Sections, Table};
+use mrp_rows::{Cursor, Fault, Name, Row, Sections, Table};
 use std::alloc::Global;
 use std::marker::Model;
 use std::thread;
@@ -67,8 +71,33 @@ impl Model for Tables {
     }) };
 }
 
-// The tables from the stock to the routings and the master schedule: the bills and the schedule each in a thread of its
-// own, if one can be started.
+// The first half of the master schedule, in a thread of its own if one can be started, and the tables from the stock to the
+// routings.
+fn read_beside_master(
+    rt: &impl Threads,
+    alloc: Global,
+    sections: &Sections<'_>,
+    first: &FirstTables,
+    front: &mut Cursor<'_>,
+) -> (Option<Vec<MasterRow>>, Result<StockToRoutings, Fault>)
+    requires layout { front.old.layout ≡ layout_of Table.Master }
+    requires first { AreFirst sections.now first.now }
+    ensures front { GivesMasterHalf first.now.version first.now.calendar first.now.items front.old result.0 }
+    ensures rows { GivesStockToRoutings sections.now result.1 }
+{
+    let read_front = move || -> Option<Vec<MasterRow>>
+        requires { front.now.layout ≡ layout_of Table.Master }
+        ensures { GivesMasterHalf first.entry.now.version first.entry.now.calendar first.entry.now.items front.entry.now result }
+    { Master::read_half(alloc, front, first.version, &first.calendar, &first.items) };
+    let read_rows = move || -> Result<StockToRoutings, Fault>
+        requires { AreFirst sections.now first.now }
+        ensures { GivesStockToRoutings sections.entry.now result }
+    { StockToRoutings::read_parallel(rt, alloc, sections, first) };
+    thread::join(rt, read_front, read_rows)
+}
+
+// The tables from the stock to the routings and the master schedule: each half of the bills and of the schedule in a thread of
+// its own, if one can be started.
 fn read_to_master(
     rt: &impl Threads,
     alloc: Global,
@@ -82,23 +111,39 @@ fn read_to_master(
     ensures rows { GivesStockToRoutings sections.now result.0 }
     ensures master { GivesTable sections.now Table.Master result.1 (λ rows. rows.items) }
 {
-    let read_master = move || -> Result<Vec<MasterRow>, Fault>
-        requires { AreFirst sections.now first.now }
-        ensures { GivesTable sections.entry.now Table.Master result (λ rows. rows.items) }
-    {
-        Master::read(
+    let Some((mut front, mut behind)) = halves_of(alloc, sections, Table::Master) else {
+        let rows = StockToRoutings::read_parallel(rt, alloc, sections, first);
+        let master = Master::read(
             alloc,
             sections,
             first.version,
             &first.calendar,
             &first.items,
-        )
+        );
+        return (rows, master);
     };
-    let read_rows = move || -> Result<StockToRoutings, Fault>
-        requires { AreFirst sections.now first.now }
-        ensures { GivesStockToRoutings sections.entry.now result }
-    { StockToRoutings::read_parallel(rt, alloc, sections, first) };
-    let (master, rows) = thread::join(rt, read_master, read_rows);
+    let front = &mut front;
+    let behind = &mut behind;
+    let read_behind = move || -> Option<Vec<MasterRow>>
+        requires { behind.now.layout ≡ layout_of Table.Master }
+        ensures { GivesMasterHalf first.entry.now.version first.entry.now.calendar first.entry.now.items behind.entry.now result }
+    { Master::read_half(alloc, behind, first.version, &first.calendar, &first.items) };
+    let read_others = move || -> (Option<Vec<MasterRow>>, Result<StockToRoutings, Fault>)
+        requires layout { front.now.layout ≡ layout_of Table.Master }
+        requires first { AreFirst sections.now first.now }
+        ensures front { GivesMasterHalf first.entry.now.version first.entry.now.calendar first.entry.now.items front.entry.now result.0 }
+        ensures rows { GivesStockToRoutings sections.entry.now result.1 }
+    { read_beside_master(rt, alloc, sections, first, front) };
+    let (behind, (front, rows)) = thread::join(rt, read_behind, read_others);
+    let master = Master::of_halves(
+        alloc,
+        sections,
+        first.version,
+        &first.calendar,
+        &first.items,
+        front,
+        behind,
+    );
     (rows, master)
 }
 
@@ -134,7 +179,7 @@ impl Tables {
         Ok(Tables::of(first, rows, last))
     }
 
-    /// The same, with the bills, the master schedule and the script each read in parallel with the other tables
+    /// The same, with the script and the halves of the bills and of the master schedule each read in parallel with the other tables
     /// from the stock on: in threads of their own, or one after the other if none can be started. Of several
     /// refusals that of the earliest table is still the one returned.
     ///
