@@ -195,8 +195,8 @@ fn is_narrow(shop: &Shop) -> bool {
     items >= MANY && items / shop.depth().max(1) < WIDE
 }
 
-/// The plan of these inputs: every item is planned, by so many workers (1 to 64, as the caller guarantees). One
-/// worker plans in turn, as for a shop of many items with few to a low-level code; several do as in
+/// The plan of these inputs: every item is planned, by so many workers (1 to 64, as the caller guarantees). Where
+/// there is one, or a shop has many items but few to a low-level code, items are planned in turn; otherwise as in
 /// [`work_together`]. It is the plan that `explode_serial` gives. It passes the gate before it plans an item, once
 /// for each. It may wait.
 ///

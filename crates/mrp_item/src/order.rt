@@ -11,6 +11,7 @@ pub enum OrderKind {
     Planned,
 }
 
+// Fields lie in this order, the wide ones first: an order takes 24 bytes so, and 32 otherwise.
 /// An order of an item.
 #[derive(Clone, Copy, Debug, PartialEq, Eq)]
 pub struct Order {
