@@ -97,7 +97,7 @@ Turns
     have its function and what is written of its proof, nor has what that proof may rest on: of its crate the lemmas and all
     code but bodies, of its crate and of those below the definitions and all public code but bodies, and their lines in
     crates.txt; nor has the toolchain's version. (Bodies of functions that can have no copy count as code that is seen, and
-    comments do not.) Of these a run tries the edits of a sixth of the functions, which the digest of the last commit's tree
+    comments do not.) Of these a run tries the edits of a third of the functions, which the digest of the last commit's tree
     draws.
     Controls and edits with a line `always:` never wait. An edit whose text has moved is bad in every turn.
     The landing before is the commit that tools/landed names. Whoever begins a change writes there the commit that landed

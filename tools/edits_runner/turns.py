@@ -1,4 +1,4 @@
-"""Turns: of the edits whose verdict the landing before has told, a run may try those of a sixth of the functions, as the last commit
+"""Turns: of the edits whose verdict the landing before has told, a run may try those of a third of the functions, as the last commit
 draws it."""
 
 import re
@@ -8,14 +8,14 @@ from dataclasses import dataclass, field
 from . import toolchain
 from .changes import Changes, NoTurn, changes_since, told_by_git
 
-TURNS = 6
+TURNS = 3
 # Names the commit that landed last.
 LANDED = "tools/landed"
 
 
 @dataclass(frozen=True)
 class Turn:
-    """Which sixth it is, which commit landed before, and what has changed since."""
+    """Which third it is, which commit landed before, and what has changed since."""
 
     number: int
     landed: str = ""
