@@ -1,4 +1,5 @@
-"""The desks that documents show: each tried by the program as its section says, from the commands that stand in front of its table."""
+"""The desks that documents show: each tried by the program as its section says, from the commands that stand in front of its table,
+which lose no call where they are typed again."""
 
 import itertools
 import os
@@ -8,7 +9,7 @@ import subprocess
 import tempfile
 from dataclasses import dataclass
 
-from .folders import SHOPS, TOP
+from .folders import JOURNAL, SHOPS, TOP, get
 from .processes import SECONDS, Desk, Stuck
 from .transcripts import faults_beside_plan
 
@@ -97,6 +98,15 @@ def faults_of_command(command, room, env):
     return [f"`{command}` ends with status {ended.returncode} and {ended.stderr!r}"] if ended.returncode or ended.stderr else []
 
 
+def faults_typed_again(shown, room, env):
+    """What is lost where all commands are typed again, as on the next morning: no call may be."""
+    journal = os.path.join(env["HOME"], shown.folder, JOURNAL)
+    before = get(journal)
+    how = {"stdin": subprocess.DEVNULL, "capture_output": True, "timeout": SECONDS, "check": False}
+    subprocess.run(script(room, shown.commands), env=env, **how)
+    return [] if get(journal) == before else [f"its commands, typed again, change {JOURNAL}"]
+
+
 def faults_of(shown, program):
     """Does what is shown, in a copy of what the commands name, and finds what is not as it must be."""
     with tempfile.TemporaryDirectory() as room:
@@ -108,7 +118,8 @@ def faults_of(shown, program):
         env = {**os.environ, "HOME": home}
         faults, out = faults_of_desk(shown, room, env)
         faults += faults_beside_plan(program, os.path.join(home, shown.folder), out)
-        return [*faults, *itertools.chain(*(faults_of_command(command, room, env) for command in shown.afterwards))]
+        faults += itertools.chain(*(faults_of_command(command, room, env) for command in shown.afterwards))
+        return [*faults, *faults_typed_again(shown, room, env)]
 
 
 @dataclass

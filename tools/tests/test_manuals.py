@@ -6,7 +6,7 @@ import unittest
 
 from desk_runner import manuals
 
-COMMANDS = "    cp -r shops/bicycle ~/d && rm ~/d/script.csv\n    bin/mrp desk --dir ~/d\n"
+COMMANDS = "    mkdir ~/d && cp shops/bicycle/*.csv ~/d && rm ~/d/script.csv\n    bin/mrp desk --dir ~/d\n"
 HEAD = "| You type | It answers |\n|---|---|\n"
 ROWS = "| `1,run,,,,` | `full` |\n|`x`|`full`: no call|\n"
 SECTION = f"Desks\n\nSome words.\n\n{COMMANDS}\n{HEAD}{ROWS}\nCtrl-D ends it. `bin/mrp page < a` draws it, `cut: script 8`.\n"
@@ -45,7 +45,7 @@ class Documents(unittest.TestCase):
         for it in manuals.manuals():
             with self.subTest(document=it.name):
                 shown = manuals.shown_in(it.section)
-                self.assertIn("cp -r shops/bicycle ~/", shown.commands[0])
+                self.assertIn("cp shops/bicycle/*.csv ~/", shown.commands[0])
                 self.assertGreater(len(shown.rows), 3)
 
 
@@ -71,6 +71,12 @@ class Tries(unittest.TestCase):
         self.assertIn("ends with status 3", self.fault("full; done; exit 3; while false; do echo"))
         self.assertIn("`bin/mrp page` ends with status 1", self.fault(status=1))
         self.assertIn("No such file", self.fault(section=SECTION.replace("shops/bicycle", "shops/tricycle")))
+
+    def test_commands_that_are_typed_again(self):
+        journalled = "full; echo 1 >> ~/d/script.csv"
+        self.assertIsNone(self.fault(journalled))
+        lost = self.fault(journalled, section=SECTION.replace("mkdir ~/d", "mkdir -p ~/d"))
+        self.assertEqual(lost, "its commands, typed again, change script.csv")
 
 
 if __name__ == "__main__":
