@@ -10,7 +10,7 @@ ghost use Rattle.mrp_report.specs.Written.{Passes, WritesWhole};
 use crate::fault::ReportFault;
 use crate::page::Page;
 use crate::section::{Readings, SECTIONS, run_section};
-use crate::wave::{Chunks, Slot, slots, write_in_turn, write_waves};
+use crate::wave::{Chunks, PAGES, Slot, slots, write_in_turn, write_waves};
 use mrp_item::Plan;
 use mrp_qty::NoMemory;
 use mrp_rows::{Told, Tries, WRITE_TRIES};
@@ -40,7 +40,6 @@ fn write_parallel<W: Write>(
     writer: &mut Told<W>,
     tries: &mut Tries,
 ) -> Result<(), ReportFault>
-    requires { 0 < length slots.old }
     ensures { Passes W.contents writer.old writer.new (page.old ++ rows_in chunks.now) page.new tries.old tries.new result }
 {
     page.hand_over(writer, tries)?;
@@ -48,7 +47,7 @@ fn write_parallel<W: Write>(
 }
 
 // Adds the rows of a section, and hands full pages over. The rows are made in parallel if they are
-// more than one chunk, and if there are several workers and memory for a page each.
+// more than one chunk, and if there are several workers.
 fn write_rows<W: Write>(
     rt: &(impl Threads + Sync),
     alloc: Global,
@@ -60,7 +59,7 @@ fn write_rows<W: Write>(
 ) -> Result<(), ReportFault>
     ensures { Passes W.contents writer.old writer.new (page.old ++ rows_in chunks.now) page.new tries.old tries.new result }
 {
-    if slots.len() > 1 && chunks.are_many() {
+    if slots.len() > PAGES && chunks.are_many() {
         write_parallel(rt, alloc, chunks, slots, page, writer, tries)
     } else {
         write_in_turn(alloc, chunks, page, writer, tries)
@@ -105,7 +104,7 @@ pub fn write_report<W: Write>(
 {
     let mut tries = Tries::new();
     let mut page = Page::new(alloc);
-    let mut slots = slots(alloc, workers)?;
+    let mut slots = slots(alloc, workers * PAGES)?;
     let readings = Readings::of(rt, alloc, plan)?;
     write_run(&mut page, plan)?;
     for section in SECTIONS {
