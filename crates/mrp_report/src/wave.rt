@@ -9,6 +9,7 @@ mod chunks;
 mod claims;
 mod cut;
 mod in_turn;
+mod pages;
 mod slot;
 
 use crate::fault::ReportFault;
@@ -17,16 +18,12 @@ use claims::Wave;
 pub(crate) use cut::Chunks;
 pub(crate) use in_turn::write_in_turn;
 use mrp_rows::{Told, Tries};
-use slot::page_of;
-pub(crate) use slot::{Slot, slots};
+pub(crate) use pages::Pages;
+use slot::{Slot, page_of};
 use std::alloc::Global;
 use std::io::Write;
 use std::thread;
 use std::thread::Threads;
-
-// How many pages a worker has: twice as many as its share of a wave, so that it can make the chunks of one
-// that is slower.
-pub(crate) const PAGES: usize = 16;
 
 // Makes a chunk that no thread has claimed, if there is one.
 fn fill_next(alloc: Global, chunks: &Chunks<'_>, wave: &Wave, slot: &mut Slot)
@@ -58,13 +55,14 @@ fn fill_wave<R: Threads + Sync>(
     wave: &Wave,
     slots: &mut [Slot],
 )
+    requires { 0 < wave.now.pages }
     ensures { All (IsMade chunks.now) slots.new }
 {
-    if slots.len() <= PAGES {
+    if slots.len() <= wave.pages {
         fill_pages(alloc, chunks, wave, slots);
         return;
     }
-    let (own, rest) = slots.split_at_mut(PAGES);
+    let (own, rest) = slots.split_at_mut(wave.pages);
     fill_parallel(rt, alloc, chunks, wave, own, rest);
 }
 
@@ -78,6 +76,7 @@ fn fill_parallel<R: Threads + Sync>(
     own: &mut [Slot],
     rest: &mut [Slot],
 )
+    requires { 0 < wave.now.pages }
     ensures own { All (IsMade chunks.now) own.new }
     ensures rest { All (IsMade chunks.now) rest.new }
 {
@@ -85,7 +84,7 @@ fn fill_parallel<R: Threads + Sync>(
         ensures { All (IsMade chunks.entry.now) own.exit.now }
     { fill_pages(alloc, chunks, wave, own) };
     let mut here = ||
-        requires { IsSync R.row }
+        requires { IsSync R.row × (0 < wave.now.pages) }
         ensures { All (IsMade chunks.entry.now) rest.exit.now }
     { fill_wave(rt, alloc, chunks, wave, rest) };
     thread::join_mut(rt, &mut beside, &mut here);
@@ -123,7 +122,8 @@ fn write_wave<W: Write>(
     writer: &mut Told<W>,
     tries: &mut Tries,
 ) -> Result<(), ReportFault>
-    requires { wave.now.from ≤ count_of chunks.now }
+    requires from { wave.now.from ≤ count_of chunks.now }
+    requires pages { 0 < wave.now.pages }
     ensures { Writes W.contents writer.old writer.new (rows_from chunks.now wave.now.from wave.now.count) tries.old tries.new result }
 {
     fill_wave(rt, alloc, chunks, wave, slots);
@@ -142,20 +142,22 @@ pub(crate) fn write_waves<W: Write>(
     rt: &(impl Threads + Sync),
     alloc: Global,
     chunks: &Chunks<'_>,
-    slots: &mut [Slot],
+    pages: &mut Pages,
     writer: &mut Told<W>,
     tries: &mut Tries,
 ) -> Result<(), ReportFault>
     ensures { Writes W.contents writer.old writer.new (rows_in chunks.now) tries.old tries.new result }
 {
     let count = chunks.count();
-    let most = chunks.in_wave(slots.len() / PAGES);
+    let most = chunks.in_wave(pages.workers, pages.share());
+    let of_each = pages.of_each;
+    let slots = pages.slots.as_mut_slice();
     let mut from = 0;
     while from < count {
         let size = chunks.left(from).min(most);
-        let pages = size.saturating_mul(PAGES).min(slots.len());
-        let wave = Wave::new(from, size);
-        write_wave(rt, alloc, chunks, &wave, &mut slots[..pages], writer, tries)?;
+        let wave = Wave::new(from, size, of_each);
+        let used = of_each.saturating_mul(size).min(slots.len());
+        write_wave(rt, alloc, chunks, &wave, &mut slots[..used], writer, tries)?;
         from = chunks.reach(from, size);
     }
     Ok(())

@@ -3,14 +3,12 @@
 ghost use Rattle.std.specs.Prelude.{◌≡◌, ◌<◌};
 
 use crate::section::{Readings, Section};
+use crate::wave::pages::MOST_SHARE;
 use mrp_bill::Shop;
 
-// About how many rows a chunk has: a third of a megabyte of text.
-const ROWS: usize = 8_192;
-
-// How many chunks of a wave are for each worker: some megabytes of text, compared with which starting a thread
-// costs nothing.
-const SHARE: usize = 8;
+// About how many rows a chunk has: a sixth of a megabyte of text. So a worker that ends last is not waited for
+// long.
+const ROWS: usize = 4_096;
 
 // The most pegs that the chunks of a wave may have for each worker: about 20 megabytes of text.
 const MOST_PEGS: usize = 524_288;
@@ -30,8 +28,8 @@ fn pegs_of_a_week(shop: &Shop) -> usize {
     tables.bills().len() / tables.items().len().max(1) + 1
 }
 
-// A section's rows, cut into chunks of `size` places each, of which a wave has `share` for each worker. They do
-// not fit if even a chunk of one place may have more rows than a page should hold.
+// A section's rows, cut into chunks of `size` places each, of which a wave may have `share` for each worker. They
+// do not fit if even a chunk of one place may have more rows than a page should hold.
 #[derive(Drop)]
 pub(crate) struct Chunks<'a> {
     pub readings: &'a Readings<'a>,
@@ -59,12 +57,14 @@ impl<'a> Chunks<'a> {
             }
             _ => (weeks, 1),
         };
-        let size = (ROWS / rows.max(1)).min(MOST_PEGS / SHARE / most).max(1);
+        let size = (ROWS / rows.max(1))
+            .min(MOST_PEGS / MOST_SHARE / most)
+            .max(1);
         Chunks {
             readings,
             section,
             size,
-            share: (MOST_PEGS / size.saturating_mul(most).max(1)).min(SHARE),
+            share: MOST_PEGS / size.saturating_mul(most).max(1),
             fits: most <= MOST_PEGS,
         }
     }

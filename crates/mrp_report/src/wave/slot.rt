@@ -1,6 +1,6 @@
 //! Pages that are filled in parallel.
 
-ghost use Rattle.std.specs.Prelude.{◌≡◌, ◌≤◌, All, IfOk, IfSome, None, OnErr, OnOk, Some, length};
+ghost use Rattle.std.specs.Prelude.{◌≡◌, ◌≤◌, All, IfOk, IfSome, None, OnErr, OnOk, Some};
 ghost use Rattle.mrp_report.specs.wave.Chunks.{IsMade, count_of, rows_from};
 
 use crate::page::Page;
@@ -19,7 +19,7 @@ pub(crate) struct Slot {
 
 impl Slot {
     // A page that has no chunk, and no memory.
-    fn new(alloc: Global) -> Slot
+    pub(crate) fn new(alloc: Global) -> Slot
         ensures { result.chunk ≡ None }
     {
         Slot {
@@ -91,15 +91,4 @@ pub(crate) fn page_of(slots: &[Slot], from: usize) -> Result<Option<&Page>, NoMe
         }
     }
     Ok(None)
-}
-
-// Slots without chunks.
-pub(crate) fn slots(alloc: Global, count: usize) -> Result<Vec<Slot>, NoMemory>
-    ensures { IfOk result (λ slots. length slots.items ≡ count) }
-{
-    let mut slots = Vec::with_capacity(alloc, count)?;
-    for _ in 0..count {
-        slots.push(Slot::new(alloc))?;
-    }
-    Ok(slots)
 }
