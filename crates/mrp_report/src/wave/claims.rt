@@ -17,7 +17,9 @@ pub(crate) struct Wave {
 
 impl Wave {
     pub(crate) fn new(from: usize, count: usize, pages: usize) -> Wave
-        ensures { (result.from ≡ from) × (result.count ≡ count) × (result.pages ≡ pages) }
+        ensures from { result.from ≡ from }
+        ensures count { result.count ≡ count }
+        ensures pages { result.pages ≡ pages }
     {
         Wave {
             from,

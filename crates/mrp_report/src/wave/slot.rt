@@ -1,6 +1,6 @@
 //! Pages that are filled in parallel.
 
-ghost use Rattle.std.specs.Prelude.{◌≡◌, ◌≤◌, All, IfOk, IfSome, None, OnErr, OnOk, Some};
+ghost use Rattle.std.specs.Prelude.{◌≡◌, ◌≤◌, All, IfOk, IfSome, None, OnErr, OnOk, Some, false, true};
 ghost use Rattle.mrp_report.specs.wave.Chunks.{IsMade, count_of, rows_from};
 
 use crate::page::Page;

@@ -1,20 +1,13 @@
 -- Rows of places and chunks are written, in order.
-use Rattle.std.proofs.Common.{◌≡◌, ◌∙◌, ℕ, ◌+◌, ◌-◌, ◌<◌, ◌≤◌, List, [], ◌∷◌, ◌++◌, All, Option, Some, None, IfSome, Result, Err, length, set, take, sym, ap, subst, refl, arith, append_assoc}
-use Rattle.std.proofs.lemmas.List.{take_more_set}
-use Rattle.std.proofs.lemmas.List.Elements.{All-push}
+use Rattle.std.proofs.Common.{◌≡◌, ◌∙◌, ℕ, ◌+◌, ◌-◌, ◌<◌, ◌≤◌, List, [], ◌++◌, Option, Some, IfSome, Result, Ok, Err, IfOk, Bor, sym, ap, subst, refl, arith, append_assoc}
 use Rattle.mrp_rows.specs.declared.told.Told.{Told}
-use Rattle.mrp_report.specs.wave.Chunks.{IsMade, between, count_of, end_of, row_of, rows_from, rows_in}
+use Rattle.mrp_report.specs.wave.Chunks.{between, count_of, end_of, row_of, rows_from, rows_in}
 use Rattle.mrp_report.specs.Written.{Ends, HasTaken}
 use Rattle.mrp_report.specs.declared.fault.ReportFault.{ReportFault}
 use Rattle.mrp_report.specs.declared.fault.ReportFault.TheVariants.{NoMemory}
 use Rattle.mrp_report.specs.declared.wave.cut.Chunks.{Chunks}
-use Rattle.mrp_report.specs.declared.wave.slot.Slot.{Slot}
 use Rattle.mrp_report.proofs.lemmas.wave.ChunkTexts.{behind-places, between-both, between-none, chunk-more, chunks-rest, reach-from, reach-next, reach-none, reach-within, rows-rest}
 use Rattle.mrp_report.proofs.Progress.{IsWritten, ends-failed, ends-refused, written-more, written-next, written-none, written-taken}
-
--- what there is, if there is any
-pub some-is : {A : Type 0} (o : Option A) (x : A) (P : A → Type 0) → IfSome o P → o ≡ Some x → P x
-some-is {A} o x P holds is = subst (λ (p : Option A). IfSome p P) is holds
 
 module _ {W : Type 0} (contents : W → Option (List ℕ)) (start : Told W) (first : ℕ) where
   -- the rows of one more place were put on the page
@@ -77,18 +70,9 @@ module _ {W : Type 0} (contents : W → Option (List ℕ)) (start : Told W) (fir
       ends-failed contents start now then first tries left (rows_from c from k) (between (row_of c) 0 there) (between (row_of c) there (count_of c)) (rows_in c) f r (with-wave now tries c from k within w)
       (rows-rest c there (reach-within (count_of c) c.size from k)) part failed
 
--- a page that has the chunk from a place has its rows
-pub made-page : (c : Chunks) (slot : Slot) (from : ℕ) → IsMade c slot → slot.chunk ≡ Some from → slot.page ≡ rows_from c from 1
-made-page c slot from made is = some-is slot.chunk from (λ (at : ℕ). slot.page ≡ rows_from c at 1) made is
-
--- a slot without a chunk is made
-pub made-none : (c : Chunks) (slot : Slot) → slot.chunk ≡ None → IsMade c slot
-made-none c slot none = subst (λ (o : Option ℕ). IfSome o (λ from. slot.page ≡ rows_from c from 1)) (sym none) tt
-
--- one more page of a list is made
-pub made-more : (c : Chunks) (slots : List Slot) (k : ℕ) (slot : Slot) → k < length slots → All (IsMade c) (take k slots) → IsMade c slot → All (IsMade c) (take (k + 1) (set slots k slot))
-made-more c slots k slot within made more =
-    subst (All (IsMade c)) (sym (take_more_set slots k slot within)) (All-push (take k slots) slot made more)
+-- what a page that was found holds
+pub found-is : {E : Type 0} (P : List ℕ → Type 0) (r : Result (Option (Bor (List ℕ))) E) (page : Bor (List ℕ)) → IfOk r (λ found. IfSome found (λ p. P p.now)) → r ≡ Ok (Some page) → P page.now
+found-is {E} P r page holds is = subst (λ (r : Result (Option (Bor (List ℕ))) E). IfOk r (λ found. IfSome found (λ p. P p.now))) is holds
 
 -- a page was handed over, and nothing before it
 pub written-page : {W : Type 0} (contents : W → Option (List ℕ)) (start then : Told W) (first fewer : ℕ) (page : List ℕ) → fewer ≤ first → HasTaken contents start then page (first - fewer) → IsWritten contents start then first fewer [] page
