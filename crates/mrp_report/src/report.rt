@@ -10,7 +10,7 @@ ghost use Rattle.mrp_report.specs.Written.{Passes, WritesWhole};
 use crate::fault::ReportFault;
 use crate::page::Page;
 use crate::section::{Readings, SECTIONS, run_section};
-use crate::wave::{Chunks, Slot, slots, write_in_turn, write_waves};
+use crate::wave::{Chunks, Pages, write_in_turn, write_waves};
 use mrp_item::Plan;
 use mrp_qty::NoMemory;
 use mrp_rows::{Told, Tries, WRITE_TRIES};
@@ -35,33 +35,32 @@ fn write_parallel<W: Write>(
     rt: &(impl Threads + Sync),
     alloc: Global,
     chunks: &Chunks<'_>,
-    slots: &mut [Slot],
+    pages: &mut Pages,
     page: &mut Page,
     writer: &mut Told<W>,
     tries: &mut Tries,
 ) -> Result<(), ReportFault>
-    requires { 0 < length slots.old }
     ensures { Passes W.contents writer.old writer.new (page.old ++ rows_in chunks.now) page.new tries.old tries.new result }
 {
     page.hand_over(writer, tries)?;
-    write_waves(rt, alloc, chunks, slots, writer, tries)
+    write_waves(rt, alloc, chunks, pages, writer, tries)
 }
 
 // Adds the rows of a section, and hands full pages over. The rows are made in parallel if they are
-// more than one chunk, and if there are several workers and memory for a page each.
+// more than one chunk, and if there are several workers.
 fn write_rows<W: Write>(
     rt: &(impl Threads + Sync),
     alloc: Global,
     chunks: &Chunks<'_>,
-    slots: &mut [Slot],
+    pages: &mut Pages,
     page: &mut Page,
     writer: &mut Told<W>,
     tries: &mut Tries,
 ) -> Result<(), ReportFault>
     ensures { Passes W.contents writer.old writer.new (page.old ++ rows_in chunks.now) page.new tries.old tries.new result }
 {
-    if slots.len() > 1 && chunks.are_many() {
-        write_parallel(rt, alloc, chunks, slots, page, writer, tries)
+    if pages.workers > 1 && chunks.are_many() {
+        write_parallel(rt, alloc, chunks, pages, page, writer, tries)
     } else {
         write_in_turn(alloc, chunks, page, writer, tries)
     }
@@ -72,7 +71,7 @@ fn write_section<W: Write>(
     rt: &(impl Threads + Sync),
     alloc: Global,
     chunks: &Chunks<'_>,
-    slots: &mut [Slot],
+    pages: &mut Pages,
     page: &mut Page,
     writer: &mut Told<W>,
     tries: &mut Tries,
@@ -80,7 +79,7 @@ fn write_section<W: Write>(
     ensures { Passes W.contents writer.old writer.new (page.old ++ text_of chunks.now) page.new tries.old tries.new result }
 {
     chunks.section.begin(page)?;
-    write_rows(rt, alloc, chunks, slots, page, writer, tries)
+    write_rows(rt, alloc, chunks, pages, page, writer, tries)
 }
 
 /// Writes the report of a run: the sections `run`, `promises`, `plan`, `orders`, `pegs`, `messages`
@@ -105,19 +104,13 @@ pub fn write_report<W: Write>(
 {
     let mut tries = Tries::new();
     let mut page = Page::new(alloc);
-    let mut slots = slots(alloc, workers)?;
+    let mut pages = Pages::of(alloc, workers)?;
     let readings = Readings::of(rt, alloc, plan)?;
     write_run(&mut page, plan)?;
     for section in SECTIONS {
         let chunks = Chunks::of(&readings, section);
         write_section(
-            rt,
-            alloc,
-            &chunks,
-            slots.as_mut_slice(),
-            &mut page,
-            writer,
-            &mut tries,
+            rt, alloc, &chunks, &mut pages, &mut page, writer, &mut tries,
         )?;
     }
     page.hand_over(writer, &mut tries)

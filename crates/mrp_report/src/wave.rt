@@ -1,103 +1,135 @@
 //! How the rows of a section reach the writer: in turn, or in chunks that are made in parallel, wave by wave.
 
 ghost use denote.Param.Send.{IsSync};
-ghost use Rattle.std.specs.Prelude.{◌≡◌, ◌<◌, ◌≤◌, length};
-ghost use Rattle.mrp_report.specs.wave.Chunks.{AreChunks, count_of, end_of, rows_from, rows_in};
+ghost use Rattle.std.specs.Prelude.{◌≡◌, ◌<◌, ◌≤◌, All};
+ghost use Rattle.mrp_report.specs.wave.Chunks.{IsMade, count_of, rows_from, rows_in};
 ghost use Rattle.mrp_report.specs.Written.{Writes};
 
 mod chunks;
+mod claims;
 mod cut;
 mod in_turn;
+mod pages;
 mod slot;
 
 use crate::fault::ReportFault;
+use crate::page::Page;
+use claims::Wave;
 pub(crate) use cut::Chunks;
 pub(crate) use in_turn::write_in_turn;
 use mrp_rows::{Told, Tries};
-pub(crate) use slot::{Slot, slots};
+pub(crate) use pages::Pages;
+use slot::{Slot, page_of};
 use std::alloc::Global;
 use std::io::Write;
 use std::thread;
 use std::thread::Threads;
 
-// Fills the only page with the chunk from a place.
-fn fill_one(alloc: Global, chunks: &Chunks<'_>, from: usize, slots: &mut [Slot])
-    requires one { length slots.old ≡ 1 }
-    requires from { from ≤ count_of chunks.now }
-    ensures { AreChunks chunks.now from slots.new }
+// Makes a chunk that no thread has claimed, if there is one.
+fn fill_next(alloc: Global, chunks: &Chunks<'_>, wave: &Wave, slot: &mut Slot)
+    ensures { IsMade chunks.now slot.new }
 {
-    slots[0].fill(alloc, chunks, from);
+    match wave.claim(chunks) {
+        Some(from) => slot.fill(alloc, chunks, from),
+        None => slot.empty(alloc),
+    }
 }
 
-// Fills pages with the chunks from a place: the last page on this thread, each of the others in a thread of
-// its own if one can be started. This thread starts them all. When started threads started others, two of
+// Makes chunks as long as there are some, and pages.
+fn fill_pages(alloc: Global, chunks: &Chunks<'_>, wave: &Wave, slots: &mut [Slot])
+    ensures { All (IsMade chunks.now) slots.new }
+{
+    for slot in slots.iter_mut() {
+        fill_next(alloc, chunks, wave, slot);
+    }
+}
+
+// Makes the chunks of a wave: the last pages are filled by this thread, those of each other worker in a thread
+// of its own if one can be started. This thread starts them all. When started threads started others, two of
 // them shared a processor in each wave while another processor was idle.
 #[cycle(wave)]
 fn fill_wave<R: Threads + Sync>(
     rt: &R,
     alloc: Global,
     chunks: &Chunks<'_>,
-    from: usize,
+    wave: &Wave,
     slots: &mut [Slot],
 )
-    requires some { 0 < length slots.old }
-    requires from { from ≤ count_of chunks.now }
-    ensures { AreChunks chunks.now from slots.new }
+    requires { 0 < wave.now.pages }
+    ensures { All (IsMade chunks.now) slots.new }
 {
-    if slots.len() == 1 {
-        fill_one(alloc, chunks, from, slots);
+    if slots.len() <= wave.pages {
+        fill_pages(alloc, chunks, wave, slots);
         return;
     }
-    let (first, rest) = slots.split_at_mut(1);
-    fill_parallel(rt, alloc, chunks, from, first, rest);
+    let (own, rest) = slots.split_at_mut(wave.pages);
+    fill_parallel(rt, alloc, chunks, wave, own, rest);
 }
 
-// Fills a page in a thread of its own, and meanwhile the others with the next chunks.
+// Fills the pages of a worker in a thread of its own, and meanwhile those of the others.
 #[cycle(wave)]
 fn fill_parallel<R: Threads + Sync>(
     rt: &R,
     alloc: Global,
     chunks: &Chunks<'_>,
-    from: usize,
-    first: &mut [Slot],
+    wave: &Wave,
+    own: &mut [Slot],
     rest: &mut [Slot],
 )
-    requires one { length first.old ≡ 1 }
-    requires some { 0 < length rest.old }
-    requires from { from ≤ count_of chunks.now }
-    ensures first { AreChunks chunks.now from first.new }
-    ensures rest { AreChunks chunks.now (end_of chunks.now from 1) rest.new }
+    requires { 0 < wave.now.pages }
+    ensures own { All (IsMade chunks.now) own.new }
+    ensures rest { All (IsMade chunks.now) rest.new }
 {
-    let next = chunks.reach(from, 1);
     let mut beside = ||
-        requires { (length first.now ≡ 1) × (from ≤ count_of chunks.now) }
-        ensures { AreChunks chunks.entry.now from first.exit.now }
-    { fill_one(alloc, chunks, from, first) };
+        ensures { All (IsMade chunks.entry.now) own.exit.now }
+    { fill_pages(alloc, chunks, wave, own) };
     let mut here = ||
-        requires { IsSync R.row × (0 < length rest.now) × (next ≤ count_of chunks.now) }
-        ensures { AreChunks chunks.entry.now next rest.exit.now }
-    { fill_wave(rt, alloc, chunks, next, rest) };
+        requires { IsSync R.row × (0 < wave.now.pages) }
+        ensures { All (IsMade chunks.entry.now) rest.exit.now }
+    { fill_wave(rt, alloc, chunks, wave, rest) };
     thread::join_mut(rt, &mut beside, &mut here);
 }
 
-// Makes a wave, as many chunks from a place as there are pages, and writes it in order.
+// Writes the chunk from a place. No clause says that a counter gives each number once: a chunk that is on no
+// page is made here.
+fn write_chunk<W: Write>(
+    alloc: Global,
+    chunks: &Chunks<'_>,
+    from: usize,
+    slots: &[Slot],
+    writer: &mut Told<W>,
+    tries: &mut Tries,
+) -> Result<(), ReportFault>
+    requires made { All (IsMade chunks.now) slots.now }
+    requires from { from ≤ count_of chunks.now }
+    ensures { Writes W.contents writer.old writer.new (rows_from chunks.now from 1) tries.old tries.new result }
+{
+    if let Some(page) = page_of(slots, from)? {
+        return page.write(writer, tries);
+    }
+    let mut page = Page::new(alloc);
+    chunks.add(alloc, &mut page, from)?;
+    page.write(writer, tries)
+}
+
+// Makes a wave, and writes its chunks in order.
 fn write_wave<W: Write>(
     rt: &(impl Threads + Sync),
     alloc: Global,
     chunks: &Chunks<'_>,
-    from: usize,
+    wave: &Wave,
     slots: &mut [Slot],
     writer: &mut Told<W>,
     tries: &mut Tries,
 ) -> Result<(), ReportFault>
-    requires slots { 0 < length slots.old }
-    requires from { from ≤ count_of chunks.now }
-    ensures { Writes W.contents writer.old writer.new (rows_from chunks.now from (length slots.old)) tries.old tries.new result }
+    requires from { wave.now.from ≤ count_of chunks.now }
+    requires pages { 0 < wave.now.pages }
+    ensures { Writes W.contents writer.old writer.new (rows_from chunks.now wave.now.from wave.now.count) tries.old tries.new result }
 {
-    fill_wave(rt, alloc, chunks, from, slots);
-    for slot in slots.iter() {
-        let page = slot.page()?;
-        page.write(writer, tries)?;
+    fill_wave(rt, alloc, chunks, wave, slots);
+    for k in 0..wave.count {
+        let from = chunks.reach(wave.from, k);
+        write_chunk(alloc, chunks, from, slots, writer, tries)?;
     }
     Ok(())
 }
@@ -110,18 +142,22 @@ pub(crate) fn write_waves<W: Write>(
     rt: &(impl Threads + Sync),
     alloc: Global,
     chunks: &Chunks<'_>,
-    slots: &mut [Slot],
+    pages: &mut Pages,
     writer: &mut Told<W>,
     tries: &mut Tries,
 ) -> Result<(), ReportFault>
-    requires { 0 < length slots.old }
     ensures { Writes W.contents writer.old writer.new (rows_in chunks.now) tries.old tries.new result }
 {
     let count = chunks.count();
+    let most = chunks.in_wave(pages.workers, pages.share());
+    let of_each = pages.of_each;
+    let slots = pages.slots.as_mut_slice();
     let mut from = 0;
     while from < count {
-        let size = chunks.left(from).min(slots.len());
-        write_wave(rt, alloc, chunks, from, &mut slots[..size], writer, tries)?;
+        let size = chunks.left(from).min(most);
+        let wave = Wave::new(from, size, of_each);
+        let used = of_each.saturating_mul(size).min(slots.len());
+        write_wave(rt, alloc, chunks, &wave, &mut slots[..used], writer, tries)?;
         from = chunks.reach(from, size);
     }
     Ok(())

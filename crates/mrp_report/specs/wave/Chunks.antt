@@ -1,8 +1,9 @@
 -- The rows of a section in chunks of places (profile).
-use Rattle.std.specs.Prelude.{ℕ, List, ◌+◌, ◌*◌, ◌-◌, ◌<◌, Option, None, IfSome, ◌≡◌, length, min, flat_map, slice_index_or}
+use Rattle.std.specs.Prelude.{ℕ, List, ◌+◌, ◌*◌, ◌-◌, IfSome, ◌≡◌, min, flat_map}
 use Rattle.std.specs.List.{range_with_len}
 use Rattle.mrp_item.specs.Inputs.{Inputs}
 use Rattle.mrp_report.specs.declared.wave.cut.Chunks.{Chunks}
+use Rattle.mrp_report.specs.declared.wave.slot.Slot.{Slot}
 use Rattle.mrp_report.specs.section.Sections.{all_rows, count_in, rows_of, section_text}
 
 -- the texts of the places from one up to, and without, another
@@ -41,6 +42,6 @@ rows_in c = all_rows (inputs_of c) c.section
 abbrev pub text_of : Chunks → List ℕ
 text_of c = section_text (inputs_of c) c.section
 
--- pages of the chunks from a place, in order; `None` where memory ran out
-abbrev pub AreChunks : Chunks → ℕ → List (Option (List ℕ)) → Type 0
-AreChunks c from pages = (k : ℕ) → k < length pages → IfSome (slice_index_or pages k None) (λ text. text ≡ rows_from c (end_of c from k) 1)
+-- a page has the rows of the chunk that it is said to have, if any (profile)
+abbrev pub IsMade : Chunks → Slot → Type 0
+IsMade c slot = IfSome slot.chunk (λ from. slot.page ≡ rows_from c from 1)

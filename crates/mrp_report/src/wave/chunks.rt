@@ -38,6 +38,13 @@ impl Chunks<'_> {
         (self.count() - from).div_ceil(self.size)
     }
 
+    // How many chunks a wave has, if each of so many workers has a share.
+    pub(crate) fn in_wave(&self, workers: usize, share: usize) -> usize
+        ensures { 0 < result }
+    {
+        share.min(self.share).saturating_mul(workers).max(1)
+    }
+
     // Adds the rows of the chunk from a place.
     pub(crate) fn add(&self, alloc: Global, page: &mut Page, from: usize) -> Result<(), NoMemory>
         requires { from ≤ count_of self.now }

@@ -3,13 +3,14 @@
 ghost use Rattle.std.specs.Prelude.{◌≡◌, ◌<◌};
 
 use crate::section::{Readings, Section};
+use crate::wave::pages::MOST_SHARE;
 use mrp_bill::Shop;
 
-// About how many rows a chunk has: some megabytes of text, compared with which starting a thread costs
-// nothing.
-const ROWS: usize = 65_536;
+// About how many rows a chunk has: a sixth of a megabyte of text. So a worker that ends last is not waited for
+// long.
+const ROWS: usize = 4_096;
 
-// The most pegs that a chunk may have: about 20 megabytes of text.
+// The most pegs that the chunks of a wave may have for each worker: about 20 megabytes of text.
 const MOST_PEGS: usize = 524_288;
 
 // The greatest number of bill lines to one item.
@@ -27,13 +28,14 @@ fn pegs_of_a_week(shop: &Shop) -> usize {
     tables.bills().len() / tables.items().len().max(1) + 1
 }
 
-// A section's rows, cut into chunks of `size` places each. They do not fit if even a chunk of one place may
-// have more rows than a page should hold.
+// A section's rows, cut into chunks of `size` places each, of which a wave may have `share` for each worker. They
+// do not fit if even a chunk of one place may have more rows than a page should hold.
 #[derive(Drop)]
 pub(crate) struct Chunks<'a> {
     pub readings: &'a Readings<'a>,
     pub section: Section,
     pub size: usize,
+    pub share: usize,
     pub fits: bool,
     ghost filled: { 0 < size },
 }
@@ -44,23 +46,26 @@ impl<'a> Chunks<'a> {
         ensures section { result.section ≡ section }
     {
         let inputs = readings.plan.inputs();
-        let weeks = usize::from(inputs.weeks());
-        let (rows, places) = match section {
+        let weeks = usize::from(inputs.weeks()).max(1);
+        let (rows, most) = match section {
             Section::Pegs => {
                 let shop = inputs.shop();
-                let most = most_lines(shop).saturating_mul(weeks);
                 (
                     weeks.saturating_mul(pegs_of_a_week(shop)),
-                    MOST_PEGS / most.max(1),
+                    most_lines(shop).saturating_mul(weeks).max(1),
                 )
             }
-            _ => (weeks, ROWS),
+            _ => (weeks, 1),
         };
+        let size = (ROWS / rows.max(1))
+            .min(MOST_PEGS / MOST_SHARE / most)
+            .max(1);
         Chunks {
             readings,
             section,
-            size: (ROWS / rows.max(1)).min(places).max(1),
-            fits: places > 0,
+            size,
+            share: MOST_PEGS / size.saturating_mul(most).max(1),
+            fits: most <= MOST_PEGS,
         }
     }
 }

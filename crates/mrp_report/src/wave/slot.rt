@@ -1,39 +1,43 @@
 //! Pages that are filled in parallel.
 
-ghost use Rattle.std.specs.Prelude.{◌≡◌, ◌≤◌, IfOk, IfSome, None, OnErr, OnOk, Some, length};
-ghost use Rattle.mrp_report.specs.wave.Chunks.{count_of, rows_from};
+ghost use Rattle.std.specs.Prelude.{◌≡◌, ◌≤◌, All, IfOk, IfSome, None, OnErr, OnOk, Some, false, true};
+ghost use Rattle.mrp_report.specs.wave.Chunks.{IsMade, count_of, rows_from};
 
 use crate::page::Page;
 use crate::wave::cut::Chunks;
 use mrp_qty::NoMemory;
 use std::alloc::Global;
-use std::marker::Model;
 use std::mem;
 
-// A page for a chunk's rows, which remembers whether filling it ran out of memory. Contracts see
-// its text, or `None` if it did.
+// A page for the rows of the chunk from a place, if there is one, and whether memory ran out for it.
 #[derive(Drop)]
 pub(crate) struct Slot {
     page: Page,
+    chunk: Option<usize>,
     is_refused: bool,
 }
 
-impl Model for Slot {
-    ghost use Rattle.std.specs.Prelude.{List, ℕ, Option, Some, None, if◌then◌else◌};
-
-    ghost Value = { Option (List ℕ) };
-
-    ghost view = { λ slot. if slot.is_refused then None else Some slot.page };
-}
-
 impl Slot {
-    // A page on which rows were put, or for which memory ran out.
-    fn of(page: Page, added: Result<(), NoMemory>) -> Slot
-        ensures added { OnOk added (result ≡ Some page) }
-        ensures refused { OnErr added (result ≡ None) }
+    // A page that has no chunk, and no memory.
+    pub(crate) fn new(alloc: Global) -> Slot
+        ensures { result.chunk ≡ None }
+    {
+        Slot {
+            page: Page::new(alloc),
+            chunk: None,
+            is_refused: false,
+        }
+    }
+
+    // A page on which the rows of the chunk from a place were put, or for which memory ran out.
+    fn of(page: Page, from: usize, added: Result<(), NoMemory>) -> Slot
+        ensures page { result.page ≡ page }
+        ensures added { OnOk added ((result.chunk ≡ Some from) × (result.is_refused ≡ false)) }
+        ensures refused { OnErr added ((result.chunk ≡ None) × (result.is_refused ≡ true)) }
     {
         Slot {
             page,
+            chunk: if added.is_ok() { Some(from) } else { None },
             is_refused: added.is_err(),
         }
     }
@@ -41,41 +45,50 @@ impl Slot {
     // Puts the rows of the chunk from a place on the page, and nothing else.
     pub(crate) fn fill(&mut self, alloc: Global, chunks: &Chunks<'_>, from: usize)
         requires { from ≤ count_of chunks.now }
-        ensures { IfSome self.new (λ text. text ≡ rows_from chunks.now from 1) }
+        ensures { IsMade chunks.now self.new }
     {
         // Slots are neighbours in memory, and each row moves its page's end: a page filled in its slot would
         // make processors contend for one cache line at every row.
         let mut page = mem::replace(&mut self.page, Page::new(alloc));
         page.clear();
         let added = chunks.add(alloc, &mut page, from);
-        *self = Slot::of(page, added);
+        *self = Slot::of(page, from, added);
     }
 
-    // The page.
+    // Gives the page's memory back.
+    pub(crate) fn empty(&mut self, alloc: Global)
+        ensures { self.new.chunk ≡ None }
+    {
+        *self = Slot::new(alloc);
+    }
+
+    // The page, if it has the chunk from a place.
     //
-    // Errors: `NoMemory` if filling the page ran out of memory.
-    pub(crate) fn page(&self) -> Result<&Page, NoMemory>
-        ensures page { IfOk result (λ page. self.now ≡ Some page.now) }
-        ensures refused { OnErr result (self.now ≡ None) }
+    // Errors: `NoMemory` if memory ran out for the chunk that the page should have.
+    fn page_of(&self, from: usize) -> Result<Option<&Page>, NoMemory>
+        ensures page { IfOk result (λ found. IfSome found (λ page. (self.now.chunk ≡ Some from) × (page.now ≡ self.now.page))) }
+        ensures refused { OnErr result (self.now.is_refused ≡ true) }
     {
         if self.is_refused {
-            Err(NoMemory)
-        } else {
-            Ok(&self.page)
+            return Err(NoMemory);
+        }
+        match self.chunk {
+            Some(first) if first == from => Ok(Some(&self.page)),
+            _ => Ok(None),
         }
     }
 }
 
-// Empty pages.
-pub(crate) fn slots(alloc: Global, count: usize) -> Result<Vec<Slot>, NoMemory>
-    ensures { IfOk result (λ slots. length slots.items ≡ count) }
+// The page of the chunk from a place.
+//
+// Errors: `NoMemory` if memory ran out for a chunk.
+pub(crate) fn page_of(slots: &[Slot], from: usize) -> Result<Option<&Page>, NoMemory>
+    ensures { (chunks : Chunks) → All (IsMade chunks) slots.now → IfOk result (λ found. IfSome found (λ page. page.now ≡ rows_from chunks from 1)) }
 {
-    let mut slots = Vec::with_capacity(alloc, count)?;
-    for _ in 0..count {
-        slots.push(Slot {
-            page: Page::new(alloc),
-            is_refused: false,
-        })?;
+    for slot in slots {
+        if let Some(page) = slot.page_of(from)? {
+            return Ok(Some(page));
+        }
     }
-    Ok(slots)
+    Ok(None)
 }

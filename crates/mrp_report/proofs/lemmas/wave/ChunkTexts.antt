@@ -75,6 +75,10 @@ reach-past count size from chunks within filled some =
     let more : 1 * size ≤ chunks * size = mul-le-mul_right size some in
     omega (arith, within, filled, more)
 
+-- as many chunks from the same place
+pub rows-same : (c : Chunks) {a b m n : ℕ} → a ≡ b → m ≡ n → rows_from c a m ≡ rows_from c b n
+rows-same c {a} {b} {m} from chunks = ap (λ (at : ℕ). rows_from c at m) from ∙ ap (rows_from c b) chunks
+
 -- the rows of one more chunk
 pub chunk-more : (c : Chunks) (from k : ℕ) → from ≤ count_of c → rows_from c from (k + 1) ≡ rows_from c from k ++ rows_from c (end_of c from k) 1
 chunk-more c from k within =

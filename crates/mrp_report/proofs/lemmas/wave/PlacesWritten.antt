@@ -1,18 +1,13 @@
 -- Rows of places and chunks are written, in order.
-use Rattle.std.proofs.Common.{◌≡◌, ◌∙◌, ℕ, zero, suc, ◌+◌, ◌-◌, ◌<◌, ◌≤◌, List, [], ◌∷◌, ◌++◌, Option, Some, None, IfSome, Result, Err, get_or, length, sym, ap, subst, refl, arith, append_assoc}
-use Rattle.std.proofs.lemmas.List.{get_or_default}
+use Rattle.std.proofs.Common.{◌≡◌, ◌∙◌, ℕ, ◌+◌, ◌-◌, ◌<◌, ◌≤◌, List, [], ◌++◌, Option, Some, IfSome, Result, Ok, Err, IfOk, Bor, sym, ap, subst, refl, arith, append_assoc}
 use Rattle.mrp_rows.specs.declared.told.Told.{Told}
-use Rattle.mrp_report.specs.wave.Chunks.{AreChunks, between, count_of, end_of, row_of, rows_from, rows_in}
+use Rattle.mrp_report.specs.wave.Chunks.{between, count_of, end_of, row_of, rows_from, rows_in}
 use Rattle.mrp_report.specs.Written.{Ends, HasTaken}
 use Rattle.mrp_report.specs.declared.fault.ReportFault.{ReportFault}
 use Rattle.mrp_report.specs.declared.fault.ReportFault.TheVariants.{NoMemory}
 use Rattle.mrp_report.specs.declared.wave.cut.Chunks.{Chunks}
 use Rattle.mrp_report.proofs.lemmas.wave.ChunkTexts.{behind-places, between-both, between-none, chunk-more, chunks-rest, reach-from, reach-next, reach-none, reach-within, rows-rest}
 use Rattle.mrp_report.proofs.Progress.{IsWritten, ends-failed, ends-refused, written-more, written-next, written-none, written-taken}
-
--- what there is, if there is any
-pub some-is : {A : Type 0} (o : Option A) (x : A) (P : A → Type 0) → IfSome o P → o ≡ Some x → P x
-some-is {A} o x P holds is = subst (λ (p : Option A). IfSome p P) is holds
 
 module _ {W : Type 0} (contents : W → Option (List ℕ)) (start : Told W) (first : ℕ) where
   -- the rows of one more place were put on the page
@@ -75,11 +70,9 @@ module _ {W : Type 0} (contents : W → Option (List ℕ)) (start : Told W) (fir
       ends-failed contents start now then first tries left (rows_from c from k) (between (row_of c) 0 there) (between (row_of c) there (count_of c)) (rows_in c) f r (with-wave now tries c from k within w)
       (rows-rest c there (reach-within (count_of c) c.size from k)) part failed
 
--- the page at a place of a wave has its chunk
-pub chunk-of : (c : Chunks) (from k : ℕ) (slots : List (Option (List ℕ))) (slot : Option (List ℕ)) (page : List ℕ) → AreChunks c from slots → k < length slots → slot ≡ get_or slots k slot → slot ≡ Some page
-    → page ≡ rows_from c (end_of c from k) 1
-chunk-of c from k slots slot page are within is holds =
-    some-is (get_or slots k None) page (λ (t : List ℕ). t ≡ rows_from c (end_of c from k) 1) (are k within) (get_or_default slots k None slot within ∙ sym is ∙ holds)
+-- what a page that was found holds
+pub found-is : {E : Type 0} (P : List ℕ → Type 0) (r : Result (Option (Bor (List ℕ))) E) (page : Bor (List ℕ)) → IfOk r (λ found. IfSome found (λ p. P p.now)) → r ≡ Ok (Some page) → P page.now
+found-is {E} P r page holds is = subst (λ (r : Result (Option (Bor (List ℕ))) E). IfOk r (λ found. IfSome found (λ p. P p.now))) is holds
 
 -- a page was handed over, and nothing before it
 pub written-page : {W : Type 0} (contents : W → Option (List ℕ)) (start then : Told W) (first fewer : ℕ) (page : List ℕ) → fewer ≤ first → HasTaken contents start then page (first - fewer) → IsWritten contents start then first fewer [] page
@@ -89,13 +82,3 @@ written-page contents start then first fewer page less taken =
 -- rows after a head that was put on a page
 pub head-behind : (page next head rows : List ℕ) → next ≡ page ++ head → next ++ rows ≡ page ++ (head ++ rows)
 head-behind page next head rows is = ap (λ (t : List ℕ). t ++ rows) is ∙ append_assoc page head rows
-
--- the page of a chunk, and those of the chunks after it
-pub chunks-joined : (c : Chunks) (from : ℕ) (one rest : List (Option (List ℕ))) → length one ≡ 1 → AreChunks c from one → AreChunks c (end_of c from 1) rest → AreChunks c from (one ++ rest)
-chunks-joined c from [] rest size first behind = absurd (omega (arith, size))
-chunks-joined c from (page ∷ []) rest size first behind = by
-  where
-    by : AreChunks c from (page ∷ rest)
-    by zero below = first 0 (omega arith)
-    by (suc k) below = subst (λ (at : ℕ). IfSome (get_or rest k None) (λ text. text ≡ rows_from c at 1)) (reach-next (count_of c) c.size from k) (behind k (omega (arith, below)))
-chunks-joined c from (page ∷ other ∷ more) rest size first behind = absurd (omega (arith, size))

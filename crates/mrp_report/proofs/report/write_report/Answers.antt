@@ -21,8 +21,8 @@ loop-section-init g c =
     let head : c.write_run.new.page ≡ run = c.in_ok-write_run.ensures ∙ ap (λ (page : List ℕ). page ++ run) c.new-page.ensures in
     written-none g.W.Write.contents c.args.writer.now 1000000 c.new-tries.result c.write_run.new.page (so_far run (section_text s) in_order 0) c.new-tries.ensures (head ∙ so_far-none run (section_text s) in_order)
 
-pub returns-in_err-slots : goal.returns-in_err-slots
-returns-in_err-slots g c = ends-of_call (ends-at_once g.W.Write.contents c.args.writer.now 1000000 (report_text c.args.plan.now.inputs) c.from_residual.result (search rules))
+pub returns-in_err-pages : goal.returns-in_err-pages
+returns-in_err-pages g c = ends-of_call (ends-at_once g.W.Write.contents c.args.writer.now 1000000 (report_text c.args.plan.now.inputs) c.from_residual.result (search rules))
 
 pub returns-in_err-readings : goal.returns-in_err-readings
 returns-in_err-readings g c = ends-of_call (ends-at_once g.W.Write.contents c.args.writer.now 1000000 (report_text c.args.plan.now.inputs) c.from_residual-in_err-readings.result (search rules))
