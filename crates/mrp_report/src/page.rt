@@ -196,6 +196,14 @@ impl Page {
         self.end = 0;
     }
 
+    // Makes room for so many bytes, if there is less.
+    pub(crate) fn reserve(&mut self, bytes: usize) -> Result<(), NoMemory>
+        ensures { self.new ≡ self.old }
+    {
+        self.bytes.reserve(bytes.saturating_sub(self.bytes.len()))?;
+        Ok(())
+    }
+
     /// Writes the text, and leaves it on the page.
     ///
     /// Errors: `Write` if a write failed in this call, or was interrupted with no try left. A

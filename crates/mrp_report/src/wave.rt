@@ -31,7 +31,7 @@ fn fill_next(alloc: Global, chunks: &Chunks<'_>, wave: &Wave, slot: &mut Slot)
 {
     match wave.claim(chunks) {
         Some(from) => slot.fill(alloc, chunks, from),
-        None => slot.empty(alloc),
+        None => slot.empty(),
     }
 }
 

@@ -10,7 +10,7 @@ use std::alloc::Global;
 // large wave are started seldom, and that of many workers takes memory.
 const CHUNKS: usize = 128;
 
-const LEAST_SHARE: usize = 16;
+const LEAST_SHARE: usize = 8;
 
 // The most chunks of a wave for each worker.
 pub(crate) const MOST_SHARE: usize = 32;

@@ -1,6 +1,6 @@
 //! Pages that are filled in parallel.
 
-ghost use Rattle.std.specs.Prelude.{◌≡◌, ◌≤◌, All, IfOk, IfSome, None, OnErr, OnOk, Some, false, true};
+ghost use Rattle.std.specs.Prelude.{◌≡◌, ◌≤◌, ◌++◌, All, IfOk, IfSome, None, OnErr, OnOk, Some, false, true};
 ghost use Rattle.mrp_report.specs.wave.Chunks.{IsMade, count_of, rows_from};
 
 use crate::page::Page;
@@ -8,6 +8,9 @@ use crate::wave::cut::Chunks;
 use mrp_qty::NoMemory;
 use std::alloc::Global;
 use std::mem;
+
+// The bytes that a chunk takes at least, if its section has many.
+const ROOM_OF_A_CHUNK: usize = 131_072;
 
 // A page for the rows of the chunk from a place, if there is one, and whether memory ran out for it.
 #[derive(Drop)]
@@ -51,15 +54,16 @@ impl Slot {
         // make processors contend for one cache line at every row.
         let mut page = mem::replace(&mut self.page, Page::new(alloc));
         page.clear();
-        let added = chunks.add(alloc, &mut page, from);
+        let added = add_rows(alloc, chunks, from, &mut page);
         *self = Slot::of(page, from, added);
     }
 
-    // Gives the page's memory back.
-    pub(crate) fn empty(&mut self, alloc: Global)
+    // Puts nothing on the page. Its memory stays.
+    pub(crate) fn empty(&mut self)
         ensures { self.new.chunk ≡ None }
     {
-        *self = Slot::new(alloc);
+        self.chunk = None;
+        self.is_refused = false;
     }
 
     // The page, if it has the chunk from a place.
@@ -77,6 +81,21 @@ impl Slot {
             _ => Ok(None),
         }
     }
+}
+
+// Adds the rows of the chunk from a place to a page, which gets room for most of them at once: each further growth
+// copies the page.
+fn add_rows(
+    alloc: Global,
+    chunks: &Chunks<'_>,
+    from: usize,
+    page: &mut Page,
+) -> Result<(), NoMemory>
+    requires { from ≤ count_of chunks.now }
+    ensures { OnOk result (page.new ≡ page.old ++ rows_from chunks.now from 1) }
+{
+    page.reserve(ROOM_OF_A_CHUNK)?;
+    chunks.add(alloc, page, from)
 }
 
 // The page of the chunk from a place.
