@@ -10,3 +10,7 @@ use Rattle.mrp_commands.specs.declared.ending.Ending.TheVariants as ending
 pub read-fault : (fault : ReadFault) (end : Ending) → end ≡ end_of_read fault → end ≡ ending.Read → fault ≡ read.Read
 read-fault read.Read end is e = refl
 read-fault read.NoMemory end is e = cc
+
+pub read-memory : (fault : ReadFault) (end : Ending) → end ≡ end_of_read fault → end ≡ ending.NoMemory → fault ≡ read.NoMemory
+read-memory read.Read end is e = cc
+read-memory read.NoMemory end is e = refl

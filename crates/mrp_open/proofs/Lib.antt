@@ -6,6 +6,7 @@ pub mod Folders
 pub mod Making
 pub mod OpenFolders
 pub mod Runs
+pub mod RunsMade
 pub mod Settled
 pub mod Starting
 pub mod Told

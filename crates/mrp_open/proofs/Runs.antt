@@ -40,10 +40,10 @@ folds-next {P} R a b c h k e folds one within is =
     (FoldsTo-push R a (take k h) b e c folds one)
 
 -- a run whose file is not there is handed over
-pub handed-missing : (known : Known) (path : List ℕ) (front : ℕ) (old new : Handed) → IsThere known path false → Hands front old new → HandsUnless known path front old new
-handed-missing known path front old new absent (inl given) = inl (given, absent)
-handed-missing known path front old new absent (inr missed) = inr (inl missed)
+pub handed-missing : (known : Known) (path : List ℕ) (run : Run) (old new : Handed) → IsThere known path false → Hands run old new → HandsUnless known path run old new
+handed-missing known path run old new absent (inl given) = inl (given, absent)
+handed-missing known path run old new absent (inr missed) = inr (inl missed)
 
 -- takers that were told of the same runs and given the same
 pub same-handed : (a b : Handed) → a.told ≡ b.told → a.given ≡ b.given → a ≡ b
-same-handed a b told given = ap₂ (λ (t g : Option (List ℕ)). let h : Handed = record { told = t; given = g } in h) told given
+same-handed a b told given = ap₂ (λ (t : Option (List ℕ)) (g : Option (List Run)). let h : Handed = record { told = t; given = g } in h) told given

@@ -18,7 +18,7 @@ use Rattle.mrp_book.specs.declared.call.Call.{Call}
 use Rattle.mrp_book.specs.declared.reply.Reply.{Reply}
 use Rattle.mrp_book.specs.History.{next_number}
 use Rattle.mrp_book.specs.Standing.{History}
-use Rattle.mrp_intake.specs.Intake.{BringsKnown, Taken}
+use Rattle.mrp_intake.specs.Intake.{BringsKnown, IsLineLeft, Taken}
 use Rattle.mrp_intake.specs.Lines.{lines_of, told_lines, told_of}
 use Rattle.mrp_journal.specs.Held.{Held, IsSettled, settled}
 use Rattle.mrp_journal.specs.Journal.{with_more}
@@ -31,7 +31,7 @@ use Rattle.mrp_commands.specs.declared.ending.Ending.{Ending}
 use Rattle.mrp_commands.specs.declared.ending.Ending.TheVariants as ending
 use Rattle.mrp_words.specs.Folder.{Known}
 use Rattle.mrp_open.specs.Runs.{Handed, HandsOver, HandsOverAll}
-use Rattle.mrp_open.proofs.Failing.{read-fault}
+use Rattle.mrp_open.proofs.Failing.{read-fault, read-memory}
 use Rattle.mrp_open.specs.Served.{Advances, BringsLines, Fails, FailsToRead, FailsToSettle, Flushes, HandsMore, IsServingEnd, MakesUp, Serves, Settles, SettlesRuns, Source, Stand, Stops, StopsAt}
 
 -- What lines do to a desk.
@@ -176,7 +176,7 @@ hands-both : (old mid new : History) (a b c : Handed) → HandsMore old mid a b 
 hands-both old mid new a b c p q = record {
   more = p.more ++ q.more;
   is = q.is ∙ ap (λ (h : History). h ++ q.more) p.is ∙ append_assoc old p.more q.more;
-  handed = folds-both (λ (handed : Handed) (e : Entry Call Reply) (next : Handed). HandsOver e.reply handed next) a p.more b q.more c p.handed q.handed;
+  handed = folds-both (λ (handed : Handed) (e : Entry Call Reply) (next : Handed). HandsOver e.who e.reply handed next) a p.more b q.more c p.handed q.handed;
 }
 
 -- Lines that come.
@@ -197,10 +197,21 @@ brings-batch old new None after h = tt
 brings-batch old new (Some x) None h = absurd h
 brings-batch old new (Some x) (Some y) h = h
 
--- the lines that are still to come
+-- the lines that are still to come, or one where they are not known
 abbrev left_lines : List ℕ → Option (List ℕ) → List (List ℕ)
-left_lines begun None = []
+left_lines begun None = [] ∷ []
 left_lines begun (Some text) = told_lines (begun ++ text)
+
+one-some : (line : List ℕ) → line ∷ [] ≢ []
+one-some line none = cc
+
+left-some : (begun : List ℕ) (given : Option (List ℕ)) → IsLineLeft begun given → left_lines begun given ≢ []
+left-some begun None some = one-some []
+left-some begun (Some text) some = some
+
+lines-some : (lines more : List (List ℕ)) → lines ≢ [] → lines ++ more ≢ []
+lines-some [] more some = absurd (some refl)
+lines-some (line ∷ lines) more some = λ none. let e : line ∷ (lines ++ more) ≡ [] = none in cc
 
 brings-rest : (b1 b2 : List ℕ) (given left : Option (List ℕ)) (lines : List (List ℕ)) → BringsLines b1 given lines b2 left → IfSome given (λ text. told_lines (b1 ++ text) ≡ lines ++ left_lines b2 left)
 brings-rest b1 b2 None left lines h = tt
@@ -273,6 +284,7 @@ stops-done old_intake new_intake given left old b batch begun at heard = record 
   fails = λ (e : ending.Done ≡ ending.Read). absurd cc;
   clear = λ other. heard;
   all = λ _. (refl, refl, refl);
+  memory = λ (e : ending.Done ≡ ending.NoMemory). absurd cc;
   ends = inl refl;
 }
 
@@ -299,8 +311,8 @@ clear-read read.NoMemory end given left is heard other = heard refl
 
 -- a read has failed, or there was no memory
 pub stops-read : (begun : List ℕ) (given left : Source) (old : Stand) (fault : ReadFault) (end : Ending) → end ≡ end_of_read fault → (fault ≡ read.Read → FailsToRead given left)
-    → (fault ≡ read.NoMemory → left.failures ≡ given.failures) → StopsAt begun given left old old end
-stops-read begun given left old fault end is fails heard =
+    → (fault ≡ read.NoMemory → left.failures ≡ given.failures) → (fault ≡ read.NoMemory → IsLineLeft begun given.left) → StopsAt begun given left old old end
+stops-read begun given left old fault end is fails heard some =
     let ended_by = read-end fault end is in
     record {
       lines = [];
@@ -310,6 +322,7 @@ stops-read begun given left old fault end is fails heard =
       fails = λ e. fails (read-fault fault end is e);
       clear = clear-read fault end given left is heard;
       all = λ done. absurd (ended_by.not_done done);
+      memory = λ e. left-some begun given.left (some (read-memory fault end is e));
       ends = ended_by.serving;
     }
 
@@ -336,8 +349,9 @@ batch-end lines old new end (inr (is, breaks)) = record {
 
 -- a batch was not settled
 pub stops-batch : (old_intake new_intake : Taken) (given left : Source) (old new : Stand) (end : Ending)
-    → BringsKnown old_intake new_intake given.left left.left → left.failures ≡ given.failures → Fails (told_lines new_intake.batch) old new end → StopsAt old_intake.begun given left old new end
-stops-batch old_intake new_intake given left old new end b heard fails =
+    → BringsKnown old_intake new_intake given.left left.left → left.failures ≡ given.failures → told_lines new_intake.batch ≢ [] → Fails (told_lines new_intake.batch) old new end
+    → StopsAt old_intake.begun given left old new end
+stops-batch old_intake new_intake given left old new end b heard some fails =
     let ended_by = batch-end (told_lines new_intake.batch) old new end fails in
     record {
       lines = told_lines new_intake.batch;
@@ -347,6 +361,7 @@ stops-batch old_intake new_intake given left old new end b heard fails =
       fails = λ read. absurd (ended_by.not_read read);
       clear = λ other. heard;
       all = λ done. absurd (ended_by.not_done done);
+      memory = λ _. lines-some (told_lines new_intake.batch) (left_lines new_intake.begun left.left) some;
       ends = ended_by.serving;
     }
 
@@ -372,6 +387,7 @@ serves given waiting left begun old between new handed_old handed_new end p q = 
   fails = q.fails;
   clear = q.clear;
   all = q.all;
+  memory = q.memory;
   ends = q.ends;
 }
 

@@ -1,5 +1,6 @@
 -- What contracts see of a folder of the operating system that an order desk is opened on: nothing of its files (profile).
 use Rattle.std.specs.Prelude.{ℕ, ◌≡◌, Bool, true, false, List, [], ◌∷◌, Result, Ok, Err, codes}
+use Rattle.std.specs.declared.fs.File.{File}
 use Rattle.mrp_open.specs.Opening.{HasFailed, IsInUse, Opening}
 use Rattle.mrp_open.specs.declared.disk.DeskFolder.{DeskFolder}
 use Rattle.mrp_open.specs.declared.disk.Lock.{Lock}
@@ -37,3 +38,8 @@ abbrev pub TellsLock : Opening → Opening → Result (Unit {0}) LockFault → T
 TellsLock old new (Ok done) = new ≡ record old { is_held = true }
 TellsLock old new (Err fault.InUse) = IsInUse old new
 TellsLock old new (Err fault.Read) = HasFailed old new
+
+-- a folder has the lock that was taken, or why it has none is passed on
+abbrev pub KeepsLock : {R : Type 0} → Result (Lock File) LockFault → DeskFolder R → Result (Unit {0}) LockFault → Type 0
+KeepsLock (Ok lock) folder kept = (folder.lock ≡ lock) × (kept ≡ Ok tt)
+KeepsLock (Err why) folder kept = kept ≡ Err why

@@ -6,6 +6,7 @@ pub mod Locks
 pub mod Made
 pub mod Opening
 pub mod Runs
+pub mod RunsMade
 pub mod Served
 pub mod Start
 pub mod Sum

@@ -20,13 +20,17 @@ IsRunOf P e = (snapshot : Snapshot) → e.reply ≡ reply.Taken snapshot → P (
 abbrev pub with_front : ℕ → Option (List ℕ) → Option (List ℕ)
 with_front front numbers = option_map (λ fronts. fronts ++ front ∷ []) numbers
 
--- the numbers of the runs that were told, and of those that were given, in order, as far as they are known
+-- runs, and one more
+abbrev pub with_run : Run → Option (List Run) → Option (List Run)
+with_run run runs = option_map (λ given. given ++ run ∷ []) runs
+
+-- the numbers of the runs that were told, and those that were given, in order, as far as they are known
 pub record Handed : Type 0 where
   pub told : Option (List ℕ)
-  pub given : Option (List ℕ)
+  pub given : Option (List Run)
 
 -- those of a taker of runs
-abbrev pub handed_of : {T : Type 0} → (T → Option (List ℕ)) → (T → Option (List ℕ)) → T → Handed
+abbrev pub handed_of : {T : Type 0} → (T → Option (List ℕ)) → (T → Option (List Run)) → T → Handed
 handed_of told given taker = record { told = told taker; given = given taker }
 
 -- none of them are known
@@ -34,9 +38,9 @@ abbrev pub unknown : Handed
 unknown = record { told = None; given = None }
 
 -- a run was given
-pub record Gives (front : ℕ) (old new : Handed) : Type 0 where
-  pub told : new.told ≡ with_front front old.told
-  pub given : new.given ≡ with_front front old.given
+pub record Gives (run : Run) (old new : Handed) : Type 0 where
+  pub told : new.told ≡ with_front run.snapshot.front old.told
+  pub given : new.given ≡ with_run run old.given
 
 -- a run was told and not given, as there was no memory for it
 pub record Misses (front : ℕ) (old new : Handed) : Type 0 where
@@ -44,30 +48,35 @@ pub record Misses (front : ℕ) (old new : Handed) : Type 0 where
   pub given : new.given ≡ old.given
 
 -- a run was handed over
-abbrev pub Hands : ℕ → Handed → Handed → Type 0
-Hands front old new = Gives front old new ⊎ Misses front old new
+abbrev pub Hands : Run → Handed → Handed → Type 0
+Hands run old new = Gives run old new ⊎ Misses run.snapshot.front old new
 
--- where a reply answers a run, the run was handed over
-abbrev pub HandsOver : Reply → Handed → Handed → Type 0
-HandsOver (reply.Taken snapshot) old new = Hands snapshot.front old new
-HandsOver r old new = new ≡ old
+-- where a reply answers a run of a desk, that run was handed over
+abbrev pub HandsOver : ℕ → Reply → Handed → Handed → Type 0
+HandsOver desk (reply.Taken snapshot) old new = Hands (record { desk = desk; snapshot = snapshot }) old new
+HandsOver desk r old new = new ≡ old
 
 -- the runs of entries were handed over, each once, in order
 abbrev pub HandsOverAll : History → Handed → Handed → Type 0
-HandsOverAll entries old new = FoldsTo (λ (handed : Handed) (e : Entry Call Reply) (next : Handed). HandsOver e.reply handed next) old entries new
+HandsOverAll entries old new = FoldsTo (λ (handed : Handed) (e : Entry Call Reply) (next : Handed). HandsOver e.who e.reply handed next) old entries new
 
 -- a run whose file would stand at a path is given where it is not there, and passed over where it is, as far as that is
 -- known; or it is told, as there was no memory for it
-abbrev pub HandsUnless : Known → List ℕ → ℕ → Handed → Handed → Type 0
-HandsUnless known path front old new =
-    (Gives front old new × IsThere known path false) ⊎ (Misses front old new ⊎ ((new ≡ old) × IsThere known path true))
+abbrev pub HandsUnless : Known → List ℕ → Run → Handed → Handed → Type 0
+HandsUnless known path run old new =
+    (Gives run old new × IsThere known path false) ⊎ (Misses run.snapshot.front old new ⊎ ((new ≡ old) × IsThere known path true))
 
--- where a reply answers a run, the run was handed over, unless the folder has its file
-abbrev pub HandsMissing : Known → List ℕ → Reply → Handed → Handed → Type 0
-HandsMissing known folder (reply.Taken snapshot) old new = HandsUnless known (path_join folder (run_name snapshot.front)) snapshot.front old new
-HandsMissing known folder r old new = new ≡ old
+-- where the file of a run of a folder would stand
+abbrev pub run_path : List ℕ → Run → List ℕ
+run_path folder run = path_join folder (run_name run.snapshot.front)
+
+-- where a reply answers a run of a desk, that run was handed over, unless the folder has its file
+abbrev pub HandsMissing : Known → List ℕ → ℕ → Reply → Handed → Handed → Type 0
+HandsMissing known folder desk (reply.Taken snapshot) old new =
+    HandsUnless known (run_path folder (record { desk = desk; snapshot = snapshot })) (record { desk = desk; snapshot = snapshot }) old new
+HandsMissing known folder desk r old new = new ≡ old
 
 -- of entries, the runs without a file in the folder were handed over, each once, in order
 abbrev pub HandsAllMissing : Known → List ℕ → History → Handed → Handed → Type 0
 HandsAllMissing known folder entries old new =
-    FoldsTo (λ (handed : Handed) (e : Entry Call Reply) (next : Handed). HandsMissing known folder e.reply handed next) old entries new
+    FoldsTo (λ (handed : Handed) (e : Entry Call Reply) (next : Handed). HandsMissing known folder e.who e.reply handed next) old entries new

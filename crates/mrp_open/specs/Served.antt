@@ -7,7 +7,7 @@ use Rattle.mrp_rows.specs.declared.streams.TheConstants.{READ_CALLS, WRITE_TRIES
 use Rattle.mrp_rows.specs.declared.told.Told.{Told}
 use Rattle.mrp_book.specs.Standing.{History}
 use Rattle.mrp_intake.specs.Lines.{told_lines}
-use Rattle.mrp_journal.specs.Held.{Becomes, Held}
+use Rattle.mrp_journal.specs.Held.{AppendsFront, Becomes, Held}
 use Rattle.mrp_journal.specs.Journal.{KeepsSafely, with_more}
 use Rattle.mrp_folder.specs.Sealed.{failures_of_sealed, journal_of}
 use Rattle.mrp_folder.specs.declared.sealing.SealedJournal.{SealedJournal}
@@ -82,8 +82,8 @@ abbrev pub FailsToSettle : Stand → Stand → Type 0
 FailsToSettle old new =
     HasRisenBy 1 old.journal_failures new.journal_failures ⊎ (HasRisenBy 1 old.output_failures new.output_failures ⊎ HasRisenBy WRITE_TRIES old.output_interrupted new.output_interrupted)
 
--- lines were answered, and then the journal or the output failed: of the records a front may be there, and of the answers
--- a front was written, but none before all records were durable
+-- lines were answered, and then the journal or the output failed: of the records a front may be there, and nothing was tried
+-- again or cut off; of the answers a front was written, but none before all records were durable
 pub record Breaks (lines : List (List ℕ)) (old new : Stand) : Type 0 where
   pub answers : List ℕ
   pub records : List ℕ
@@ -91,6 +91,7 @@ pub record Breaks (lines : List (List ℕ)) (old new : Stand) : Type 0 where
   pub safe : Becomes (KeepsSafely records) old.journal new.journal
   pub front : WritesFront old.output new.output answers
   pub durable : Keeps old.output new.output ⊎ (new.journal ≡ option_map (with_more records) old.journal)
+  pub left : AppendsFront records old.journal new.journal ⊎ (new.journal ≡ option_map (with_more records) old.journal)
   pub fails : FailsToSettle old new
 
 -- lines were not settled: there was no memory, and nothing has changed or failed; or the journal or the output failed
@@ -135,7 +136,8 @@ IsServingEnd end = (end ≡ ending.Done) ⊎ ((end ≡ ending.NoMemory) ⊎ ((en
 abbrev pub FailsToRead : Source → Source → Type 0
 FailsToRead old new = HasRisenBy 1 old.failures new.failures ⊎ ((greatest_count ≤ new.interrupted) ⊎ HasRisenBy READ_CALLS old.calls new.calls)
 
--- an order desk has stopped in a batch of lines, or as it read them; where it is done, no line is left
+-- an order desk has stopped in a batch of lines, or as it read them; where it is done, no line is left, and memory has lacked for
+-- a line
 pub record StopsAt (begun : List ℕ) (given left : Source) (old new : Stand) (end : Ending) : Type 0 where
   pub lines : List (List ℕ)
   pub rest : List (List ℕ)
@@ -144,11 +146,12 @@ pub record StopsAt (begun : List ℕ) (given left : Source) (old new : Stand) (e
   pub fails : end ≡ ending.Read → FailsToRead given left
   pub clear : end ≢ ending.Read → left.failures ≡ given.failures
   pub all : end ≡ ending.Done → (lines ≡ []) × (rest ≡ []) × (new ≡ old)
+  pub memory : end ≡ ending.NoMemory → lines ++ rest ≢ []
   pub ends : IsServingEnd end
 
 -- an order desk has answered lines of its input, one after the other, handed over their runs, and stopped in a batch of
--- more lines, or as it read them; at the end of the input all lines are answered; what has failed failed in that batch, and
--- is what the end tells
+-- more lines, or as it read them; at the end of the input all lines are answered, and memory has lacked for a line; what has
+-- failed failed in that batch, and is what the end tells
 pub record Serves (given left : Source) (old new : Stand) (handed_old handed_new : Handed) (end : Ending) : Type 0 where
   pub lines : List (List ℕ)
   pub more : List (List ℕ)
@@ -162,6 +165,7 @@ pub record Serves (given left : Source) (old new : Stand) (handed_old handed_new
   pub fails : end ≡ ending.Read → FailsToRead waiting left
   pub clear : end ≢ ending.Read → left.failures ≡ waiting.failures
   pub all : end ≡ ending.Done → (more ≡ []) × (rest ≡ []) × (new ≡ between)
+  pub memory : end ≡ ending.NoMemory → more ++ rest ≢ []
   pub ends : IsServingEnd end
 
 -- runs of the journal without a file in the folder are handed over, and then lines of the input are answered

@@ -8,7 +8,7 @@ ghost use Rattle.mrp_intake.specs.Lines.{told_lines};
 ghost use Rattle.mrp_journal.specs.Held.{IsSettled};
 ghost use Rattle.mrp_runs.specs.File.{IsRun};
 ghost use Rattle.mrp_runs.specs.declared.run.Run.{Run};
-ghost use Rattle.mrp_open.specs.Runs.{Hands, HandsOver, HandsOverAll, IsRunOf, handed_of, with_front};
+ghost use Rattle.mrp_open.specs.Runs.{Hands, HandsOver, HandsOverAll, IsRunOf, handed_of, with_front, with_run};
 ghost use Rattle.mrp_open.specs.Served.{Advances, Fails, Serves, Settles, SettlesRuns, StopsAt, source_of, stand_of};
 
 use mrp_book::{Call, Entry, Reply, Snapshot};
@@ -31,8 +31,8 @@ pub trait RunTaker {
     /// The numbers of the runs that it was given or told of, in order, as far as that is known.
     ghost told: { Self → Option (List ℕ) };
 
-    /// The numbers of those that it was given, as far as that is known.
-    ghost given: { Self → Option (List ℕ) };
+    /// Those that it was given, in order, as far as that is known.
+    ghost given: { Self → Option (List Run) };
 
     /// It was told that no more runs come.
     ghost closed: { Self → Bool };
@@ -41,7 +41,7 @@ pub trait RunTaker {
     fn take(&mut self, run: Run)
         requires { takes run }
         ensures told { told self.new ≡ with_front run.snapshot.front (told self.old) }
-        ensures given { given self.new ≡ with_front run.snapshot.front (given self.old) };
+        ensures given { given self.new ≡ with_run run (given self.old) };
 
     /// Is told of a run that could not be given, as there was no memory for it.
     fn miss(&mut self, front: u64)
@@ -58,7 +58,7 @@ pub trait RunTaker {
 // Hands over a run.
 pub(crate) fn hand_run<T: RunTaker>(desk: u64, snapshot: &Snapshot, taker: &mut T)
     requires { T.takes (record { desk = desk; snapshot = snapshot.now }) }
-    ensures { Hands snapshot.now.front (handed_of T.told T.given taker.old) (handed_of T.told T.given taker.new) }
+    ensures { Hands (record { desk = desk; snapshot = snapshot.now }) (handed_of T.told T.given taker.old) (handed_of T.told T.given taker.new) }
 {
     match snapshot.copy() {
         Ok(snapshot) => taker.take(Run { desk, snapshot }),
@@ -69,7 +69,7 @@ pub(crate) fn hand_run<T: RunTaker>(desk: u64, snapshot: &Snapshot, taker: &mut 
 // Hands over an entry, if it is a run.
 fn hand_entry<T: RunTaker>(entry: &Entry<Call, Reply>, taker: &mut T)
     requires { IsRunOf T.takes entry.now }
-    ensures { HandsOver entry.now.reply (handed_of T.told T.given taker.old) (handed_of T.told T.given taker.new) }
+    ensures { HandsOver entry.now.who entry.now.reply (handed_of T.told T.given taker.old) (handed_of T.told T.given taker.new) }
 {
     match &entry.reply {
         Reply::Taken(snapshot) => hand_run(entry.who, snapshot, taker),

@@ -75,7 +75,7 @@ fn hand_missing_run<F: FileStore, T: RunTaker>(
     taker: &mut T,
 )
     requires { T.takes (record { desk = desk; snapshot = snapshot.now }) }
-    ensures { HandsMissing (F.known files.now) folder.now (reply.Taken snapshot.now) (handed_of T.told T.given taker.old) (handed_of T.told T.given taker.new) }
+    ensures { HandsMissing (F.known files.now) folder.now desk (reply.Taken snapshot.now) (handed_of T.told T.given taker.old) (handed_of T.told T.given taker.new) }
 {
     match has_run(files, alloc, folder, snapshot.front()) {
         Ok(true) => {}
@@ -93,7 +93,7 @@ fn hand_missing<F: FileStore, T: RunTaker>(
     taker: &mut T,
 )
     requires { IsRunOf T.takes entry.now }
-    ensures { HandsMissing (F.known files.now) folder.now entry.now.reply (handed_of T.told T.given taker.old) (handed_of T.told T.given taker.new) }
+    ensures { HandsMissing (F.known files.now) folder.now entry.now.who entry.now.reply (handed_of T.told T.given taker.old) (handed_of T.told T.given taker.new) }
 {
     match &entry.reply {
         Reply::Taken(snapshot) => {

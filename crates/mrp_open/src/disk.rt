@@ -1,12 +1,12 @@
 //! What a start does with a folder of the operating system. No contract can say what its files have.
 
-ghost use Rattle.std.specs.Prelude.{◌≡◌, IfOk, OnOk, true};
+ghost use Rattle.std.specs.Prelude.{◌≡◌, IfOk, OnOk, ⊤, true};
 ghost use Rattle.std.specs.Fs.{new_options, with_append, with_create};
 ghost use Rattle.std.specs.Path.{path_buf_bytes, path_join};
 ghost use Rattle.mrp_rows.specs.declared.fault.Table.TheVariants as t;
 ghost use Rattle.mrp_words.specs.Folder.{IsThere, path_in};
 ghost use Rattle.mrp_open.specs.Disk.{has_handle, is_taken, path_to_open};
-ghost use Rattle.mrp_open.specs.Locks.{HasHandle, IsLocked, IsTaken};
+ghost use Rattle.mrp_open.specs.Locks.{Answer, HasHandle, IsHeldBy, IsLocked};
 
 use crate::place::JournalPlace;
 use mrp_commands::Ending;
@@ -29,20 +29,23 @@ pub enum LockFault {
     Read,
 }
 
-// Whether a lock was taken, by what the operating system answered.
-fn lock_taken(outcome: Result<(), TryLockError>) -> Result<(), LockFault>
-    ensures { IsTaken outcome result }
-{
-    match outcome {
-        Ok(()) => Ok(()),
-        Err(TryLockError::WouldBlock) => Err(LockFault::InUse),
-        Err(TryLockError::Error(_)) => Err(LockFault::Read),
-    }
+// A handle whose lock can be asked for. The lock goes with the handle.
+trait CanLock {
+    // What the operating system may answer.
+    ghost answers: { Self → Answer → Type 0 };
+
+    // Asks for the lock, without waiting.
+    fn ask_lock(&self) -> Result<(), TryLockError>
+        ensures { answers self.now result };
 }
 
-// Takes the lock of a folder, without waiting. It goes with the handle.
-fn hold(handle: &File) -> Result<(), LockFault> {
-    lock_taken(handle.try_lock())
+// No contract can say what the operating system answers.
+impl CanLock for File {
+    ghost answers = { λ _ _. ⊤ };
+
+    fn ask_lock(&self) -> Result<(), TryLockError> {
+        self.try_lock()
+    }
 }
 
 // A file of which nothing is kept.
@@ -75,6 +78,17 @@ enum Lock<F> {
     Held(F),
 }
 
+// A folder is locked by its handle, or why not, by what the operating system answered.
+fn held<F: Drop>(handle: F, answer: Result<(), TryLockError>) -> Result<Lock<F>, LockFault>
+    ensures { IsHeldBy handle answer result }
+{
+    match answer {
+        Ok(()) => Ok(Lock::Held(handle)),
+        Err(TryLockError::WouldBlock) => Err(LockFault::InUse),
+        Err(TryLockError::Error(_)) => Err(LockFault::Read),
+    }
+}
+
 // The handle of a folder, by what opening it came to; `None` if there is no such folder.
 fn handle_of<F>(outcome: io::Result<F>) -> Result<Option<F>, LockFault>
     ensures { HasHandle outcome result }
@@ -91,14 +105,14 @@ fn handle_of<F>(outcome: io::Result<F>) -> Result<Option<F>, LockFault>
 // Takes the lock of a folder, by what opening it came to, without waiting; there is none if there is no such folder.
 //
 // Errors: `InUse` if another process has the lock; `Read` if the folder can't be opened or locked.
-fn lock_opened(outcome: io::Result<File>) -> Result<Lock<File>, LockFault>
-    ensures locked { IsLocked outcome result }
+fn lock_opened<F: CanLock + Drop>(outcome: io::Result<F>) -> Result<Lock<F>, LockFault>
+    ensures locked { IsLocked F.answers outcome result }
     ensures taken { IfOk result (λ lock. is_taken lock ≡ true) }
 {
     match handle_of(outcome)? {
         Some(handle) => {
-            hold(&handle)?;
-            Ok(Lock::Held(handle))
+            let answer = handle.ask_lock();
+            held(handle, answer)
         }
         None => Ok(Lock::Absent),
     }
@@ -206,8 +220,8 @@ impl<'a, R> DeskFolder<'a, R> {
 }
 
 impl<'a, R: Files<File = File>> DeskFolder<'a, R> {
-    ghost use Rattle.std.specs.Prelude.{◌≡◌, OnErr, OnOk};
-    ghost use Rattle.mrp_open.specs.Disk.{TellsLock, opening_of, path_of};
+    ghost use Rattle.std.specs.Prelude.{◌≡◌, IfOk, OnErr, OnOk, true};
+    ghost use Rattle.mrp_open.specs.Disk.{KeepsLock, TellsLock, is_taken, opening_of, path_of};
     ghost use Rattle.mrp_open.specs.Opening.{HasFailed};
 
     /// Takes the numbers of closed standard streams, so that no file of the folder gets one, and what is written to a
@@ -229,15 +243,15 @@ impl<'a, R: Files<File = File>> DeskFolder<'a, R> {
         }
     }
 
-    /// Takes its lock, without waiting, if there is such a folder. The lock goes with this value.
-    ///
-    /// Errors: `InUse` if another process has the lock; `Read` if the folder can't be opened or locked.
-    pub fn lock(&mut self) -> Result<(), LockFault>
+    // Keeps the lock that was taken, or counts why there is none.
+    fn keep_lock(&mut self, locked: Result<Lock<File>, LockFault>) -> Result<(), LockFault>
+        requires { IfOk locked (λ lock. is_taken lock ≡ true) }
+        ensures kept { KeepsLock locked self.new result }
         ensures told { TellsLock (opening_of self.old) (opening_of self.new) result }
         ensures unopened { (opening_of self.new).is_opened ≡ (opening_of self.old).is_opened }
         ensures path { path_of self.new ≡ path_of self.old }
     {
-        match lock_folder(self.files, self.path) {
+        match locked {
             Ok(lock) => {
                 self.lock = lock;
                 Ok(())
@@ -251,6 +265,18 @@ impl<'a, R: Files<File = File>> DeskFolder<'a, R> {
                 Err(LockFault::Read)
             }
         }
+    }
+
+    /// Takes its lock, without waiting, if there is such a folder. The lock goes with this value.
+    ///
+    /// Errors: `InUse` if another process has the lock; `Read` if the folder can't be opened or locked.
+    pub fn lock(&mut self) -> Result<(), LockFault>
+        ensures told { TellsLock (opening_of self.old) (opening_of self.new) result }
+        ensures unopened { (opening_of self.new).is_opened ≡ (opening_of self.old).is_opened }
+        ensures path { path_of self.new ≡ path_of self.old }
+    {
+        let locked = lock_folder(self.files, self.path);
+        self.keep_lock(locked)
     }
 }
 

@@ -18,7 +18,7 @@ pub loop-entry-preserved : goal.loop-entry-preserved
 loop-entry-preserved g c =
     let told = g.T.RunTaker.told in
     let given = g.T.RunTaker.given in
-    folds-next (λ (handed : Handed) (e : Entry Call Reply) (next : Handed). HandsOver e.reply handed next)
+    folds-next (λ (handed : Handed) (e : Entry Call Reply) (next : Handed). HandsOver e.who e.reply handed next)
     (handed_of told given c.args.taker.now) (handed_of told given c.loop-entry.taker) (handed_of told given c.hand_entry.new.taker) c.args.entries.now c.loop-entry.entry-index c.entry-item.result
     c.loop-entry.invariant c.hand_entry.ensures c.loop-entry-test.true c.entry-item.is
 

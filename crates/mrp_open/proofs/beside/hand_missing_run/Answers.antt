@@ -2,6 +2,7 @@ use Rattle.std.proofs.Common.{ℕ, Bool, false, subst}
 use Rattle.std.specs.Path.{path_join}
 use Rattle.mrp_words.specs.Folder.{IsThere}
 use Rattle.mrp_runs.specs.File.{run_name}
+use Rattle.mrp_runs.specs.declared.run.Run.{Run}
 use Rattle.mrp_open.specs.Runs.{handed_of}
 use Rattle.mrp_open.proofs.Runs.{handed-missing}
 use Rattle.mrp_open.proofs.beside.hand_missing_run.Goals as goal
@@ -14,4 +15,5 @@ returns-in-Ok-false g c =
     let front = c.args.snapshot.now.front in
     let looked : IsThere known (path c.front.result) false = subst (λ (b : Bool). IsThere known (path c.front.result) b) c.in-Ok-false.field-0-test c.in-Ok-false.ensures in
     let absent : IsThere known (path front) false = subst (λ (n : ℕ). IsThere known (path n) false) c.front.ensures looked in
-    handed-missing known (path front) front (handed c.args.taker.now) (handed c.hand_run.new.taker) absent c.hand_run.ensures
+    let run : Run = record { desk = c.args.desk; snapshot = c.args.snapshot.now } in
+    handed-missing known (path front) run (handed c.args.taker.now) (handed c.hand_run.new.taker) absent c.hand_run.ensures

@@ -17,7 +17,7 @@ loop-entry-init g c = refl
 pub loop-entry-preserved : goal.loop-entry-preserved
 loop-entry-preserved g c =
     let handed = handed_of g.T.RunTaker.told g.T.RunTaker.given in
-    folds-next (λ (told : Handed) (e : Entry Call Reply) (next : Handed). HandsMissing (g.F.FileStore.known c.args.files.now) c.args.folder.now e.reply told next)
+    folds-next (λ (told : Handed) (e : Entry Call Reply) (next : Handed). HandsMissing (g.F.FileStore.known c.args.files.now) c.args.folder.now e.who e.reply told next)
     (handed c.args.taker.now) (handed c.loop-entry.taker) (handed c.hand_missing.new.taker) c.args.entries.now c.loop-entry.entry-index c.entry-item.result
     c.loop-entry.invariant c.hand_missing.ensures c.loop-entry-test.true c.entry-item.is
 
