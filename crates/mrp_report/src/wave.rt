@@ -149,7 +149,7 @@ pub(crate) fn write_waves<W: Write>(
     ensures { Writes W.contents writer.old writer.new (rows_in chunks.now) tries.old tries.new result }
 {
     let count = chunks.count();
-    let most = chunks.in_wave(pages.workers, pages.share());
+    let most = chunks.in_wave(pages.workers);
     let of_each = pages.of_each;
     let slots = pages.slots.as_mut_slice();
     let mut from = 0;

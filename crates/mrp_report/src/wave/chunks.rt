@@ -38,11 +38,11 @@ impl Chunks<'_> {
         (self.count() - from).div_ceil(self.size)
     }
 
-    // How many chunks a wave has, if each of so many workers has a share.
-    pub(crate) fn in_wave(&self, workers: usize, share: usize) -> usize
+    // How many chunks a wave of so many workers has.
+    pub(crate) fn in_wave(&self, workers: usize) -> usize
         ensures { 0 < result }
     {
-        share.min(self.share).saturating_mul(workers).max(1)
+        self.share.saturating_mul(workers).max(1)
     }
 
     // Adds the rows of the chunk from a place.

@@ -3,12 +3,12 @@
 ghost use Rattle.std.specs.Prelude.{◌≡◌, ◌<◌};
 
 use crate::section::{Readings, Section};
-use crate::wave::pages::MOST_SHARE;
+use crate::wave::pages::SHARE;
 use mrp_bill::Shop;
 
-// About how many rows a chunk has: a sixth of a megabyte of text. So a worker that ends last is not waited for
+// About how many rows a chunk has: a third of a megabyte of text. So a worker that ends last is not waited for
 // long.
-const ROWS: usize = 4_096;
+const ROWS: usize = 8_192;
 
 // The most pegs that the chunks of a wave may have for each worker: about 20 megabytes of text.
 const MOST_PEGS: usize = 524_288;
@@ -57,14 +57,12 @@ impl<'a> Chunks<'a> {
             }
             _ => (weeks, 1),
         };
-        let size = (ROWS / rows.max(1))
-            .min(MOST_PEGS / MOST_SHARE / most)
-            .max(1);
+        let size = (ROWS / rows.max(1)).min(MOST_PEGS / SHARE / most).max(1);
         Chunks {
             readings,
             section,
             size,
-            share: MOST_PEGS / size.saturating_mul(most).max(1),
+            share: (MOST_PEGS / size.saturating_mul(most).max(1)).min(SHARE),
             fits: most <= MOST_PEGS,
         }
     }

@@ -6,14 +6,9 @@ use crate::wave::slot::Slot;
 use mrp_qty::NoMemory;
 use std::alloc::Global;
 
-// How many chunks a wave has for all workers, if that is neither too few nor too many for each: the threads of a
-// large wave are started seldom, and that of many workers takes memory.
-const CHUNKS: usize = 128;
-
-const LEAST_SHARE: usize = 8;
-
-// The most chunks of a wave for each worker.
-pub(crate) const MOST_SHARE: usize = 32;
+// How many chunks a wave has for each worker, at most: some megabytes of text, compared with which starting a thread
+// costs little. Longer waves take more memory, and no less time.
+pub(crate) const SHARE: usize = 8;
 
 // How many pages a worker has for each chunk of its share, so that it can make those of one that is slower.
 const SPARE: usize = 2;
@@ -30,8 +25,7 @@ pub(crate) struct Pages {
 impl Pages {
     // Pages without chunks, for so many workers.
     pub(crate) fn of(alloc: Global, workers: usize) -> Result<Pages, NoMemory> {
-        let share = (CHUNKS / workers.max(1)).max(LEAST_SHARE).min(MOST_SHARE);
-        let of_each = SPARE * share;
+        let of_each = SPARE * SHARE;
         let count = of_each.saturating_mul(workers);
         let mut slots = Vec::with_capacity(alloc, count)?;
         for _ in 0..count {
@@ -42,10 +36,5 @@ impl Pages {
             of_each,
             workers,
         })
-    }
-
-    // The share of each worker in a wave.
-    pub(crate) fn share(&self) -> usize {
-        self.of_each / SPARE
     }
 }

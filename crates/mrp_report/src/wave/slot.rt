@@ -9,8 +9,8 @@ use mrp_qty::NoMemory;
 use std::alloc::Global;
 use std::mem;
 
-// The bytes that a chunk takes at least, if its section has many.
-const ROOM_OF_A_CHUNK: usize = 131_072;
+// The bytes that most chunks do not exceed.
+const ROOM_OF_A_CHUNK: usize = 393_216;
 
 // A page for the rows of the chunk from a place, if there is one, and whether memory ran out for it.
 #[derive(Drop)]
@@ -83,8 +83,8 @@ impl Slot {
     }
 }
 
-// Adds the rows of the chunk from a place to a page, which gets room for most of them at once: each further growth
-// copies the page.
+// Adds the rows of the chunk from a place to a page, which gets room for them at once, in most cases: each growth
+// may copy it.
 fn add_rows(
     alloc: Global,
     chunks: &Chunks<'_>,
