@@ -1,12 +1,12 @@
 -- Rows of places and chunks are written, in order.
-use Rattle.std.proofs.Common.{◌≡◌, ◌∙◌, ℕ, ◌+◌, ◌-◌, ◌<◌, ◌≤◌, List, [], ◌++◌, Option, Some, IfSome, Result, Ok, Err, IfOk, Bor, sym, ap, subst, refl, arith, append_assoc}
+use Rattle.std.proofs.Common.{◌≡◌, ◌∙◌, ℕ, ◌+◌, ◌-◌, ◌≤◌, List, [], ◌++◌, Option, Some, IfSome, Result, Ok, Err, IfOk, Bor, sym, ap, subst, refl, arith, append_assoc}
 use Rattle.mrp_rows.specs.declared.told.Told.{Told}
 use Rattle.mrp_report.specs.wave.Chunks.{between, count_of, end_of, row_of, rows_from, rows_in}
 use Rattle.mrp_report.specs.Written.{Ends, HasTaken}
 use Rattle.mrp_report.specs.declared.fault.ReportFault.{ReportFault}
 use Rattle.mrp_report.specs.declared.fault.ReportFault.TheVariants.{NoMemory}
 use Rattle.mrp_report.specs.declared.wave.cut.Chunks.{Chunks}
-use Rattle.mrp_report.proofs.lemmas.wave.ChunkTexts.{behind-places, between-both, between-none, chunk-more, chunks-rest, reach-from, reach-next, reach-none, reach-within, rows-rest}
+use Rattle.mrp_report.proofs.lemmas.wave.ChunkTexts.{behind-places, between-both, between-none, chunk-more, chunks-rest, reach-from, reach-none, reach-within, rows-rest}
 use Rattle.mrp_report.proofs.Progress.{IsWritten, ends-failed, ends-refused, written-more, written-next, written-none, written-taken}
 
 module _ {W : Type 0} (contents : W → Option (List ℕ)) (start : Told W) (first : ℕ) where

@@ -1,5 +1,5 @@
 use Rattle.std.proofs.Common.{◌≡◌, ℕ, [], ap, subst, arith, rules}
-use Rattle.mrp_report.specs.wave.Chunks.{end_of, rows_from}
+use Rattle.mrp_report.specs.wave.Chunks.{rows_from}
 use Rattle.mrp_report.proofs.lemmas.wave.PlacesWritten.{chunk-failed, next-chunk, no-chunk}
 use Rattle.mrp_report.proofs.Progress.{IsWritten, ends-done, taken-whole}
 use Rattle.mrp_report.proofs.wave.write_wave.Goals as goal
