@@ -62,13 +62,6 @@ reach-from count size from chunks within = omega (arith, within)
 pub reach-more : (count size from chunks : ℕ) → reach count size (reach count size from chunks) 1 ≡ reach count size from (chunks + 1)
 reach-more count size from chunks = omega (arith, add-mul chunks 1 size)
 
--- one chunk, and then more
-pub reach-next : (count size from chunks : ℕ) → reach count size (reach count size from 1) chunks ≡ reach count size from (suc chunks)
-reach-next count size from chunks =
-    let more : 1 + chunks ≡ suc chunks = omega arith in
-    let both : reach count size (reach count size from 1) chunks ≡ reach count size from (1 + chunks) = omega (arith, add-mul 1 chunks size) in
-    both ∙ ap (reach count size from) more
-
 -- some chunks get further
 pub reach-past : (count size from chunks : ℕ) → from < count → 0 < size → 0 < chunks → from < reach count size from chunks
 reach-past count size from chunks within filled some =

@@ -4,10 +4,9 @@ use Rattle.mrp_rows.specs.declared.told.Told.{Told}
 use Rattle.mrp_report.specs.wave.Chunks.{between, count_of, end_of, row_of, rows_from, rows_in}
 use Rattle.mrp_report.specs.Written.{Ends, HasTaken}
 use Rattle.mrp_report.specs.declared.fault.ReportFault.{ReportFault}
-use Rattle.mrp_report.specs.declared.fault.ReportFault.TheVariants.{NoMemory}
 use Rattle.mrp_report.specs.declared.wave.cut.Chunks.{Chunks}
 use Rattle.mrp_report.proofs.lemmas.wave.ChunkTexts.{behind-places, between-both, between-none, chunk-more, chunks-rest, reach-from, reach-none, reach-within, rows-rest}
-use Rattle.mrp_report.proofs.Progress.{IsWritten, ends-failed, ends-refused, written-more, written-next, written-none, written-taken}
+use Rattle.mrp_report.proofs.Progress.{IsWritten, ends-failed, written-more, written-next, written-none, written-taken}
 
 module _ {W : Type 0} (contents : W → Option (List ℕ)) (start : Told W) (first : ℕ) where
   -- the rows of one more place were put on the page
@@ -35,12 +34,6 @@ module _ {W : Type 0} (contents : W → Option (List ℕ)) (start : Told W) (fir
       → fewer ≤ tries → HasTaken contents now then page (tries - fewer) → IsWritten contents start then first fewer [] (rows_from c from (k + 1))
   next-chunk now then tries fewer c from k page within is w less taken =
       written-taken contents start now then first tries fewer page (rows_from c from (k + 1)) (with-chunk now tries c from k page within is w) less taken
-
-  -- memory ran out for the next chunk
-  pub chunk-refused : {T D : Type 0} (now : Told W) (tries : ℕ) (c : Chunks) (from k all : ℕ) (r : Result T ReportFault) → from ≤ count_of c → k ≤ all → IsWritten contents start now first tries [] (rows_from c from k)
-      → r ≡ Err NoMemory → Ends contents start now (rows_from c from all) first tries r D
-  chunk-refused now tries c from k all r within less w refused =
-      ends-refused contents start now first tries [] (rows_from c from k) (between (row_of c) (end_of c from k) (end_of c from all)) (rows_from c from all) r w (chunks-rest c from k all within less) refused
 
   -- the next chunk was not written whole
   pub chunk-failed : {S T D E : Type 0} (now then : Told W) (tries left : ℕ) (c : Chunks) (from k all : ℕ) (page : List ℕ) (f : ReportFault) (r : Result T ReportFault) → from ≤ count_of c → k + 1 ≤ all → page ≡ rows_from c (end_of c from k) 1
