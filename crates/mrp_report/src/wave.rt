@@ -1,7 +1,7 @@
 //! How the rows of a section reach the writer: in turn, or in chunks that are made in parallel, wave by wave.
 
 ghost use denote.Param.Send.{IsSync};
-ghost use Rattle.std.specs.Prelude.{◌≡◌, ◌<◌, ◌≤◌, All};
+ghost use Rattle.std.specs.Prelude.{◌≡◌, ◌≤◌, All};
 ghost use Rattle.mrp_report.specs.wave.Chunks.{IsMade, count_of, rows_from, rows_in};
 ghost use Rattle.mrp_report.specs.Written.{Writes};
 
@@ -18,6 +18,7 @@ use claims::Wave;
 pub(crate) use cut::Chunks;
 pub(crate) use in_turn::write_in_turn;
 use mrp_rows::{Told, Tries};
+use pages::OF_EACH;
 pub(crate) use pages::Pages;
 use slot::{Slot, page_of};
 use std::alloc::Global;
@@ -55,14 +56,13 @@ fn fill_wave<R: Threads + Sync>(
     wave: &Wave,
     slots: &mut [Slot],
 )
-    requires { 0 < wave.now.pages }
     ensures { All (IsMade chunks.now) slots.new }
 {
-    if slots.len() <= wave.pages {
+    if slots.len() <= OF_EACH {
         fill_pages(alloc, chunks, wave, slots);
         return;
     }
-    let (own, rest) = slots.split_at_mut(wave.pages);
+    let (own, rest) = slots.split_at_mut(OF_EACH);
     fill_parallel(rt, alloc, chunks, wave, own, rest);
 }
 
@@ -76,7 +76,6 @@ fn fill_parallel<R: Threads + Sync>(
     own: &mut [Slot],
     rest: &mut [Slot],
 )
-    requires { 0 < wave.now.pages }
     ensures own { All (IsMade chunks.now) own.new }
     ensures rest { All (IsMade chunks.now) rest.new }
 {
@@ -84,7 +83,7 @@ fn fill_parallel<R: Threads + Sync>(
         ensures { All (IsMade chunks.entry.now) own.exit.now }
     { fill_pages(alloc, chunks, wave, own) };
     let mut here = ||
-        requires { IsSync R.row × (0 < wave.now.pages) }
+        requires { IsSync R.row }
         ensures { All (IsMade chunks.entry.now) rest.exit.now }
     { fill_wave(rt, alloc, chunks, wave, rest) };
     thread::join_mut(rt, &mut beside, &mut here);
@@ -123,7 +122,6 @@ fn write_wave<W: Write>(
     tries: &mut Tries,
 ) -> Result<(), ReportFault>
     requires from { wave.now.from ≤ count_of chunks.now }
-    requires pages { 0 < wave.now.pages }
     ensures { Writes W.contents writer.old writer.new (rows_from chunks.now wave.now.from wave.now.count) tries.old tries.new result }
 {
     fill_wave(rt, alloc, chunks, wave, slots);
@@ -150,13 +148,12 @@ pub(crate) fn write_waves<W: Write>(
 {
     let count = chunks.count();
     let most = chunks.in_wave(pages.workers);
-    let of_each = pages.of_each;
     let slots = pages.slots.as_mut_slice();
     let mut from = 0;
     while from < count {
         let size = chunks.left(from).min(most);
-        let wave = Wave::new(from, size, of_each);
-        let used = of_each.saturating_mul(size).min(slots.len());
+        let wave = Wave::new(from, size);
+        let used = OF_EACH.saturating_mul(size).min(slots.len());
         write_wave(rt, alloc, chunks, &wave, &mut slots[..used], writer, tries)?;
         from = chunks.reach(from, size);
     }

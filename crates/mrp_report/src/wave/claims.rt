@@ -6,25 +6,22 @@ ghost use Rattle.mrp_report.specs.wave.Chunks.{count_of};
 use crate::wave::cut::Chunks;
 use std::sync::atomic::{AtomicUsize, Ordering};
 
-// A number of chunks from a place, how many of them threads have claimed, and how many pages each thread has.
+// A number of chunks from a place, and how many of them threads have claimed.
 #[derive(Drop)]
 pub(crate) struct Wave {
     pub from: usize,
     pub count: usize,
-    pub pages: usize,
     claimed: AtomicUsize,
 }
 
 impl Wave {
-    pub(crate) fn new(from: usize, count: usize, pages: usize) -> Wave
+    pub(crate) fn new(from: usize, count: usize) -> Wave
         ensures from { result.from ≡ from }
         ensures count { result.count ≡ count }
-        ensures pages { result.pages ≡ pages }
     {
         Wave {
             from,
             count,
-            pages,
             claimed: AtomicUsize::new(0),
         }
     }
