@@ -136,8 +136,8 @@ IsServingEnd end = (end ≡ ending.Done) ⊎ ((end ≡ ending.NoMemory) ⊎ ((en
 abbrev pub FailsToRead : Source → Source → Type 0
 FailsToRead old new = HasRisenBy 1 old.failures new.failures ⊎ ((greatest_count ≤ new.interrupted) ⊎ HasRisenBy READ_CALLS old.calls new.calls)
 
--- an order desk has stopped in a batch of lines, or as it read them; where it is done, no line is left, and memory has lacked for
--- a line
+-- an order desk has stopped in a batch of lines, or as it read them; where it is done, no line is left, and where it had no
+-- memory, a line was to come
 pub record StopsAt (begun : List ℕ) (given left : Source) (old new : Stand) (end : Ending) : Type 0 where
   pub lines : List (List ℕ)
   pub rest : List (List ℕ)
@@ -150,8 +150,8 @@ pub record StopsAt (begun : List ℕ) (given left : Source) (old new : Stand) (e
   pub ends : IsServingEnd end
 
 -- an order desk has answered lines of its input, one after the other, handed over their runs, and stopped in a batch of
--- more lines, or as it read them; at the end of the input all lines are answered, and memory has lacked for a line; what has
--- failed failed in that batch, and is what the end tells
+-- more lines, or as it read them; at the end of the input all lines are answered; where it had no memory, a line was to come;
+-- what has failed failed in that batch, and is what the end tells
 pub record Serves (given left : Source) (old new : Stand) (handed_old handed_new : Handed) (end : Ending) : Type 0 where
   pub lines : List (List ℕ)
   pub more : List (List ℕ)
